@@ -33,7 +33,6 @@ pub use fault::{Fault, Unrun};
 pub use otp_bridge::{BoxedSubsystem, Bridge, Subsystem};
 pub use otp_core::ReplyAnswer;
 pub use otp_draft::{Child, ChildKeys, DraftFault, MAX_DEPTH, Refused, Runs, TreeDraft};
-pub use otp_inbox::InboxNaming;
 pub use otp_job::{Body, BoxedJob, Job, NoWaker, Place, Told, Turn};
 pub use otp_live::{
     Answer, CallError, Caller, DeleteRefusal, GetRefusal, Happening, LogLines, Mailbox, NoRefusal,
@@ -41,15 +40,13 @@ pub use otp_live::{
 };
 pub use otp_reason::{Name, Note, Reason, Started, Text};
 pub use otp_rules::{Call, CountsNow, Reply};
-pub use otp_run::RunNaming;
-pub use otp_signals::WordsNaming;
 pub use otp_spec::{
     AutoShutdown, ChildSpec, ChildType, MAX_CHILDREN, MAX_TABLES, Modules, Restart, Shutdown,
     SpecFault, SpecKey, Strategy, SupFlags,
 };
 pub use otp_tree::{
     CallEnd, CallId, CallRequest, Client, CountedRun, Gate, Hand, Leader, Led, MAX_HANDS, Millis,
-    PlanNaming, Report, Round, RunFault, Session, System, SystemFault, TablePlan, TableReport,
+    Report, Round, RunFault, Session, System, SystemFault, TablePlan, TableReport, TreeNaming,
     with_system,
 };
 pub use running::{lead, plans, run, run_counted, run_turns, run_with_callers};

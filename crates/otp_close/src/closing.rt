@@ -28,13 +28,13 @@ use crate::rooms::LeftRoom;
 use crate::settling::settle;
 use crate::unlocking::{Loose, Unready, loosen};
 use otp_hand::places::next_of;
-use otp_hand::{Client, Hand, Shared};
-use otp_inbox::{InboxNaming, Sender};
+use otp_hand::{Client, Hand, Shared, TreeNaming};
+use otp_inbox::Sender;
 use otp_job::Body;
 use otp_report::{Mismatch, Report, TableReport};
-use otp_run::{LiveTotal, RunNaming};
-use otp_signals::{Owner, Words, WordsNaming};
-use otp_sup::{Displaced, Letter, Message, PlanNaming, SupParts, Unlocked};
+use otp_run::LiveTotal;
+use otp_signals::{Owner, Words};
+use otp_sup::{Displaced, Letter, Message, SupNaming, SupParts, Unlocked};
 use std::alloc::Global;
 use std::sync::Wait;
 
@@ -81,7 +81,7 @@ pub(crate) enum Refusal {
 
 /// A tree that was not taken apart, as it was.
 #[derive(Drop)]
-pub struct Intact<N: WordsNaming + InboxNaming + PlanNaming + RunNaming, J: Drop, S: Drop> {
+pub struct Intact<N: TreeNaming, J: Drop, S: Drop> {
     pub shared: Shared<N, J, S>,
     pub hands: Vec<Hand<N, J, S>>,
     pub client: Client<N, Body<J, S>>,
@@ -101,7 +101,7 @@ pub struct Intact<N: WordsNaming + InboxNaming + PlanNaming + RunNaming, J: Drop
 /// [`CloseFault::OutOfMemory`] (E0), [`CloseFault::Missing`] (E20) and [`CloseFault::Misplaced`] are found before
 /// anything is taken apart; the tree, all hands and the client come back as they were. [`CloseFault::Mismatch`] (E17)
 /// has the report.
-pub fn close<N: WordsNaming + InboxNaming + PlanNaming + RunNaming, J: Drop, S: Drop, R: Wait>(
+pub fn close<N: TreeNaming, J: Drop, S: Drop, R: Wait>(
     rt: &R,
     alloc: Global,
     shared: Shared<N, J, S>,
@@ -165,7 +165,7 @@ pub fn close<N: WordsNaming + InboxNaming + PlanNaming + RunNaming, J: Drop, S: 
 }
 
 /// Closes the tree ([`close`]), once the processes that wait were given back to the run queue. Where it can't be closed it is dropped.
-pub fn finish<N: WordsNaming + InboxNaming + PlanNaming + RunNaming, J: Drop, S: Drop, R: Wait>(
+pub fn finish<N: TreeNaming, J: Drop, S: Drop, R: Wait>(
     rt: &R,
     alloc: Global,
     shared: Shared<N, J, S>,
@@ -187,9 +187,7 @@ pub fn finish<N: WordsNaming + InboxNaming + PlanNaming + RunNaming, J: Drop, S:
 }
 
 /// Gives the processes that wait back to the run queue.
-fn rouse_all<N: WordsNaming + InboxNaming + RunNaming, J: Drop, S: Drop>(
-    hands: &mut Vec<Hand<N, J, S>>,
-)
+fn rouse_all<N: TreeNaming, J: Drop, S: Drop>(hands: &mut Vec<Hand<N, J, S>>)
     ensures { standings hands.new.items ≡ standings hands.old.items }
 {
     for place in 0..hands.len() {
@@ -198,7 +196,7 @@ fn rouse_all<N: WordsNaming + InboxNaming + RunNaming, J: Drop, S: Drop>(
 }
 
 /// Takes all supervisors apart, and empties all inboxes.
-fn report_of<N: WordsNaming + InboxNaming + PlanNaming, J: Drop, S: Drop, R: Wait>(
+fn report_of<N: SupNaming, J: Drop, S: Drop, R: Wait>(
     rt: &R,
     loose: Loose<N, J, S>,
     gathered: Gathered<N, J, S>,
@@ -272,7 +270,7 @@ fn report_of<N: WordsNaming + InboxNaming + PlanNaming, J: Drop, S: Drop, R: Wai
 }
 
 /// Takes all supervisors apart, and empties the inbox of each.
-fn take_all_apart<N: WordsNaming + InboxNaming + PlanNaming, B: Drop, R: Wait>(
+fn take_all_apart<N: SupNaming, B: Drop, R: Wait>(
     rt: &R,
     words: &Words<N>,
     sups: Vec<Unlocked<N, B>>,
@@ -311,7 +309,7 @@ fn take_all_apart<N: WordsNaming + InboxNaming + PlanNaming, B: Drop, R: Wait>(
 
 /// Takes a supervisor apart, and empties its inbox. Its seat is joined to the owner, which shows that no number was drawn by
 /// both.
-fn take_apart<N: WordsNaming + InboxNaming + PlanNaming, B: Drop, R: Wait>(
+fn take_apart<N: SupNaming, B: Drop, R: Wait>(
     rt: &R,
     words: &Words<N>,
     sup: Unlocked<N, B>,
@@ -357,7 +355,7 @@ fn take_apart<N: WordsNaming + InboxNaming + PlanNaming, B: Drop, R: Wait>(
 }
 
 /// All comes back.
-fn refuse<N: WordsNaming + InboxNaming + PlanNaming + RunNaming, J: Drop, S: Drop>(
+fn refuse<N: TreeNaming, J: Drop, S: Drop>(
     cause: Refusal,
     shared: Shared<N, J, S>,
     hands: Vec<Hand<N, J, S>>,

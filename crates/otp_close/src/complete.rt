@@ -6,15 +6,14 @@ ghost use Rattle.otp_run.specs.Lists.{AllAt};
 ghost use Rattle.otp_hand.specs.Hands.{senders_of};
 ghost use Rattle.otp_hand.specs.Sendings.{parts_to};
 
-use otp_hand::{Client, Hand};
+use otp_hand::{Client, Hand, TreeNaming};
 use otp_inbox::{ALL_PARTS, InboxNaming};
 use otp_job::Body;
-use otp_run::RunNaming;
 use otp_signals::WordsNaming;
 
 /// Whether the client is the one that a tree of so many supervisors was opened with, and it and the hands together have
 /// the whole right to send to each supervisor, and to whoever opened the tree, and to nobody else.
-pub(crate) fn is_reached<N: WordsNaming + InboxNaming + RunNaming, J: Drop, S: Drop>(
+pub(crate) fn is_reached<N: TreeNaming, J: Drop, S: Drop>(
     tables: usize,
     hands: &[Hand<N, J, S>],
     client: &Client<N, Body<J, S>>,
@@ -42,10 +41,7 @@ fn reaches<N: WordsNaming + InboxNaming, B: Drop>(client: &Client<N, B>, tables:
 }
 
 /// Whether each hand sends to so many.
-fn reach_as_far<N: WordsNaming + InboxNaming + RunNaming, J: Drop, S: Drop>(
-    hands: &[Hand<N, J, S>],
-    count: usize,
-) -> bool
+fn reach_as_far<N: TreeNaming, J: Drop, S: Drop>(hands: &[Hand<N, J, S>], count: usize) -> bool
     ensures { IsTrue result ↔ AllAt (λ _ hand. length (senders_of hand) ≡ count) hands.now }
 {
     for place in 0..hands.len() {
@@ -57,17 +53,14 @@ fn reach_as_far<N: WordsNaming + InboxNaming + RunNaming, J: Drop, S: Drop>(
 }
 
 /// Whether the hand sends to so many.
-fn sends_to<N: WordsNaming + InboxNaming + RunNaming, J: Drop, S: Drop>(
-    hand: &Hand<N, J, S>,
-    count: usize,
-) -> bool
+fn sends_to<N: TreeNaming, J: Drop, S: Drop>(hand: &Hand<N, J, S>, count: usize) -> bool
     ensures { IsTrue result ↔ (length (senders_of hand.now) ≡ count) }
 {
     hand.senders.len() == count
 }
 
 /// Whether they have the whole right to send to each of those to which the client sends.
-fn has_all_parts<N: WordsNaming + InboxNaming + RunNaming, J: Drop, S: Drop>(
+fn has_all_parts<N: TreeNaming, J: Drop, S: Drop>(
     hands: &[Hand<N, J, S>],
     client: &Client<N, Body<J, S>>,
 ) -> bool
@@ -82,7 +75,7 @@ fn has_all_parts<N: WordsNaming + InboxNaming + RunNaming, J: Drop, S: Drop>(
 }
 
 /// The parts of the right to send to one supervisor that they have together; 2^64 - 1 where they would be more.
-fn parts_to<N: WordsNaming + InboxNaming + RunNaming, J: Drop, S: Drop>(
+fn parts_to<N: TreeNaming, J: Drop, S: Drop>(
     place: usize,
     hands: &[Hand<N, J, S>],
     client: &Client<N, Body<J, S>>,

@@ -10,13 +10,12 @@ ghost use Rattle.otp_close.specs.Settlings.{ArePlaced, HasGained, HasJoined, Has
 use crate::parting::Rest;
 use otp_hand::Senders;
 use otp_hand::ending::count_held;
-use otp_inbox::{Inbox, InboxNaming};
+use otp_inbox::Inbox;
 use otp_job::Body;
-use otp_signals::WordsNaming;
-use otp_sup::{Letter, Message, PlanNaming, Unlocked};
+use otp_sup::{Letter, Message, SupNaming, Unlocked};
 
 /// The inbox of the supervisor at this place, or of whoever opened the tree.
-fn inbox_at<'a, N: WordsNaming + InboxNaming + PlanNaming, B: Drop>(
+fn inbox_at<'a, N: SupNaming, B: Drop>(
     sups: &'a [Unlocked<N, B>],
     outer: &'a Inbox<N, Message, Letter<B>>,
     place: usize,
@@ -31,7 +30,7 @@ fn inbox_at<'a, N: WordsNaming + InboxNaming + PlanNaming, B: Drop>(
 }
 
 /// Joins a hand's senders to these, each to that of its supervisor.
-fn join_senders<N: WordsNaming + InboxNaming + PlanNaming, B: Drop>(
+fn join_senders<N: SupNaming, B: Drop>(
     sups: &[Unlocked<N, B>],
     outer: &Inbox<N, Message, Letter<B>>,
     senders: &mut Senders<N, B>,
@@ -58,13 +57,13 @@ fn join_senders<N: WordsNaming + InboxNaming + PlanNaming, B: Drop>(
 
 /// Senders that know all that was sent, and how many end notes hands had still to send: 2^64 - 1 where they would be more.
 #[derive(Drop)]
-pub(crate) struct Joined<N: WordsNaming + InboxNaming + PlanNaming, J: Drop, S: Drop> {
+pub(crate) struct Joined<N: SupNaming, J: Drop, S: Drop> {
     pub senders: Senders<N, Body<J, S>>,
     pub held: u64,
 }
 
 /// Joins the senders of all hands to the client's, so that each knows all that was sent to its supervisor.
-pub(crate) fn join_all<N: WordsNaming + InboxNaming + PlanNaming, J: Drop, S: Drop>(
+pub(crate) fn join_all<N: SupNaming, J: Drop, S: Drop>(
     sups: &[Unlocked<N, Body<J, S>>],
     outer: &Inbox<N, Message, Letter<Body<J, S>>>,
     mut senders: Senders<N, Body<J, S>>,

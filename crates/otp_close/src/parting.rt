@@ -12,10 +12,10 @@ ghost use Rattle.otp_close.specs.Settlings.{held_in, senders_in};
 use crate::closing::Refusal;
 use otp_counts::CountsPass;
 use otp_hand::places::next_of;
-use otp_hand::{Around, Hand, Resting, Runner, Senders, Unsent, Waiting};
+use otp_hand::{Around, Hand, Resting, Runner, Senders, TreeNaming, Unsent, Waiting};
 use otp_inbox::InboxNaming;
 use otp_job::{Body, Process};
-use otp_run::{GatherFault, LiveTotal, RunNaming, Scheduler, gather};
+use otp_run::{GatherFault, LiveTotal, Scheduler, gather};
 use otp_signals::{Viewer, WordsNaming};
 use otp_tally::Tally;
 use std::alloc::{AllocError, Global};
@@ -37,7 +37,7 @@ pub(crate) struct Rest<N: WordsNaming + InboxNaming, J: Drop, S: Drop> {
 
 /// The hands that were not taken apart, as they were.
 #[derive(Drop)]
-pub(crate) struct HandsFault<N: WordsNaming + InboxNaming + RunNaming, J: Drop, S: Drop> {
+pub(crate) struct HandsFault<N: TreeNaming, J: Drop, S: Drop> {
     pub cause: Refusal,
     pub hands: Vec<Hand<N, J, S>>,
 }
@@ -50,13 +50,13 @@ pub(crate) struct Gathered<N: WordsNaming + InboxNaming, J: Drop, S: Drop> {
 }
 
 /// The memory for it.
-struct Room<N: WordsNaming + InboxNaming + RunNaming, J: Drop, S: Drop> {
+struct Room<N: TreeNaming, J: Drop, S: Drop> {
     schedulers: Vec<Scheduler<N, J, S>>,
     rests: Vec<Rest<N, J, S>>,
     hands: Vec<Hand<N, J, S>>,
 }
 
-impl<N: WordsNaming + InboxNaming + RunNaming, J: Drop, S: Drop> Room<N, J, S> {
+impl<N: TreeNaming, J: Drop, S: Drop> Room<N, J, S> {
     fn reserve(alloc: Global, count: usize) -> Result<Room<N, J, S>, AllocError>
         ensures schedulers { IfOk result (λ r. (r.schedulers.items ≡ []) × (count ≤ vec_capacity r.schedulers)) }
         ensures rests { IfOk result (λ r. (r.rests.items ≡ []) × (count ≤ vec_capacity r.rests)) }
@@ -82,7 +82,7 @@ impl<N: WordsNaming + InboxNaming + RunNaming, J: Drop, S: Drop> Room<N, J, S> {
 
 /// Takes all hands apart: what is left in the run queue, and how many processes more began than ended, and the rest of each
 /// hand. Where a hand is missing or memory is refused, all of them come back as they were.
-pub(crate) fn gather_hands<N: WordsNaming + InboxNaming + RunNaming, J: Drop, S: Drop>(
+pub(crate) fn gather_hands<N: TreeNaming, J: Drop, S: Drop>(
     alloc: Global,
     hands: Vec<Hand<N, J, S>>,
 ) -> Result<Gathered<N, J, S>, HandsFault<N, J, S>>
@@ -134,7 +134,7 @@ pub(crate) fn gather_hands<N: WordsNaming + InboxNaming + RunNaming, J: Drop, S:
 }
 
 /// Parts all hands.
-fn part_all<N: WordsNaming + InboxNaming + RunNaming, J: Drop, S: Drop>(
+fn part_all<N: TreeNaming, J: Drop, S: Drop>(
     hands: Vec<Hand<N, J, S>>,
     schedulers: &mut Vec<Scheduler<N, J, S>>,
     rests: &mut Vec<Rest<N, J, S>>,
@@ -185,7 +185,7 @@ fn part_all<N: WordsNaming + InboxNaming + RunNaming, J: Drop, S: Drop>(
 }
 
 /// Joins them again.
-fn rejoin_all<N: WordsNaming + InboxNaming + RunNaming, J: Drop, S: Drop>(
+fn rejoin_all<N: TreeNaming, J: Drop, S: Drop>(
     schedulers: Vec<Scheduler<N, J, S>>,
     rests: Vec<Rest<N, J, S>>,
     hands: &mut Vec<Hand<N, J, S>>,

@@ -8,13 +8,11 @@ ghost use Rattle.otp_hand.specs.Sendings.{sent_to};
 ghost use Rattle.otp_close.specs.Settlings.{AreRooms, IsLastRoom, IsRoom, IsRoomAt};
 
 use crate::closing::Refusal;
-use otp_hand::{Client, Hand};
-use otp_inbox::{COUNT_LIMIT, InboxNaming};
+use otp_hand::{Client, Hand, TreeNaming};
+use otp_inbox::COUNT_LIMIT;
 use otp_job::Body;
 use otp_rules::Item;
-use otp_run::RunNaming;
-use otp_signals::WordsNaming;
-use otp_sup::{Letter, PlanNaming, Unlocked};
+use otp_sup::{Letter, Unlocked};
 use std::alloc::{AllocError, Global};
 
 /// Room for what is left in one inbox: for the letters, and for what they say.
@@ -49,7 +47,7 @@ impl<B: Drop> LeftRoom<B> {
 }
 
 /// How much the client and the hands sent to one supervisor, where that is less than 2^62.
-fn count_sent<N: WordsNaming + InboxNaming + RunNaming, J: Drop, S: Drop>(
+fn count_sent<N: TreeNaming, J: Drop, S: Drop>(
     place: usize,
     hands: &[Hand<N, J, S>],
     client: &Client<N, Body<J, S>>,
@@ -64,7 +62,7 @@ fn count_sent<N: WordsNaming + InboxNaming + RunNaming, J: Drop, S: Drop>(
 }
 
 /// Room for what is left in the inbox of one supervisor.
-fn room_for<N: WordsNaming + InboxNaming + PlanNaming + RunNaming, J: Drop, S: Drop>(
+fn room_for<N: TreeNaming, J: Drop, S: Drop>(
     alloc: Global,
     place: usize,
     sup: &Unlocked<N, Body<J, S>>,
@@ -81,7 +79,7 @@ fn room_for<N: WordsNaming + InboxNaming + PlanNaming + RunNaming, J: Drop, S: D
 }
 
 /// The same of a supervisor that takes from its own inbox.
-fn room_of<N: WordsNaming + InboxNaming + PlanNaming + RunNaming, J: Drop, S: Drop>(
+fn room_of<N: TreeNaming, J: Drop, S: Drop>(
     alloc: Global,
     place: usize,
     sup: &Unlocked<N, Body<J, S>>,
@@ -99,7 +97,7 @@ fn room_of<N: WordsNaming + InboxNaming + PlanNaming + RunNaming, J: Drop, S: Dr
 }
 
 /// Room for what is left in the inbox of each supervisor.
-pub(crate) fn make_rooms<N: WordsNaming + InboxNaming + PlanNaming + RunNaming, J: Drop, S: Drop>(
+pub(crate) fn make_rooms<N: TreeNaming, J: Drop, S: Drop>(
     alloc: Global,
     sups: &[Unlocked<N, Body<J, S>>],
     hands: &[Hand<N, J, S>],
@@ -122,7 +120,7 @@ pub(crate) fn make_rooms<N: WordsNaming + InboxNaming + PlanNaming + RunNaming, 
 }
 
 /// Room for what is left in the inbox of whoever opened the tree.
-pub(crate) fn last_room<N: WordsNaming + InboxNaming + RunNaming, J: Drop, S: Drop>(
+pub(crate) fn last_room<N: TreeNaming, J: Drop, S: Drop>(
     alloc: Global,
     tables: usize,
     hands: &[Hand<N, J, S>],

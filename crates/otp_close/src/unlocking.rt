@@ -8,19 +8,18 @@ ghost use Rattle.otp_close.specs.Settlings.{ArePlaced, IsLoose};
 
 use crate::closing::Refusal;
 use crate::rooms::{LeftRoom, last_room, make_rooms};
-use otp_hand::{Client, Hand, Shared};
-use otp_inbox::{Inbox, InboxNaming};
+use otp_hand::{Client, Hand, Shared, TreeNaming};
+use otp_inbox::Inbox;
 use otp_job::Body;
 use otp_report::TableReport;
-use otp_run::RunNaming;
-use otp_signals::{Words, WordsNaming};
-use otp_sup::{Letter, Message, PlanNaming, Sup, Unlocked};
+use otp_signals::Words;
+use otp_sup::{Letter, Message, Sup, SupNaming, Unlocked};
 use std::alloc::{AllocError, Global};
 
 /// A tree whose supervisors are out of their locks, with all the memory that taking it apart needs, and that for putting
 /// them back.
 #[derive(Drop)]
-pub(crate) struct Loose<N: WordsNaming + InboxNaming + PlanNaming, J: Drop, S: Drop> {
+pub(crate) struct Loose<N: SupNaming, J: Drop, S: Drop> {
     pub words: Words<N>,
     pub sups: Vec<Unlocked<N, Body<J, S>>>,
     pub outer: Inbox<N, Message, Letter<Body<J, S>>>,
@@ -30,7 +29,7 @@ pub(crate) struct Loose<N: WordsNaming + InboxNaming + PlanNaming, J: Drop, S: D
     pub back: Vec<Sup<N, Body<J, S>>>,
 }
 
-impl<N: WordsNaming + InboxNaming + PlanNaming, J: Drop, S: Drop> Loose<N, J, S> {
+impl<N: SupNaming, J: Drop, S: Drop> Loose<N, J, S> {
     /// The tree as it was.
     pub(crate) fn lock(self) -> Shared<N, J, S>
         requires placed { ArePlaced self.sups.items self.outer }
@@ -56,21 +55,21 @@ impl<N: WordsNaming + InboxNaming + PlanNaming, J: Drop, S: Drop> Loose<N, J, S>
 
 /// A tree that can't be taken apart, as it was.
 #[derive(Drop)]
-pub(crate) struct Unready<N: WordsNaming + InboxNaming + PlanNaming, J: Drop, S: Drop> {
+pub(crate) struct Unready<N: SupNaming, J: Drop, S: Drop> {
     pub cause: Refusal,
     pub shared: Shared<N, J, S>,
 }
 
 /// The memory for it, but that for what is left.
 #[derive(Drop)]
-struct Space<N: WordsNaming + InboxNaming + PlanNaming, J: Drop, S: Drop> {
+struct Space<N: SupNaming, J: Drop, S: Drop> {
     sups: Vec<Unlocked<N, Body<J, S>>>,
     rooms: Vec<LeftRoom<Body<J, S>>>,
     tables: Vec<TableReport>,
     back: Vec<Sup<N, Body<J, S>>>,
 }
 
-impl<N: WordsNaming + InboxNaming + PlanNaming, J: Drop, S: Drop> Space<N, J, S> {
+impl<N: SupNaming, J: Drop, S: Drop> Space<N, J, S> {
     fn reserve(alloc: Global, count: usize) -> Result<Space<N, J, S>, AllocError>
         ensures sups { IfOk result (λ s. (s.sups.items ≡ []) × (count ≤ vec_capacity s.sups)) }
         ensures rooms { IfOk result (λ s. (s.rooms.items ≡ []) × (count ≤ vec_capacity s.rooms)) }
@@ -104,7 +103,7 @@ impl<N: WordsNaming + InboxNaming + PlanNaming, J: Drop, S: Drop> Space<N, J, S>
 
 /// Takes all supervisors out of their locks, and makes room for all that is left in their inboxes. Where memory is refused
 /// the tree comes back as it was.
-pub(crate) fn loosen<N: WordsNaming + InboxNaming + PlanNaming + RunNaming, J: Drop, S: Drop>(
+pub(crate) fn loosen<N: TreeNaming, J: Drop, S: Drop>(
     alloc: Global,
     shared: Shared<N, J, S>,
     hands: &[Hand<N, J, S>],
@@ -151,7 +150,7 @@ pub(crate) fn loosen<N: WordsNaming + InboxNaming + PlanNaming + RunNaming, J: D
     }
 }
 
-fn make_unready<N: WordsNaming + InboxNaming + PlanNaming, J: Drop, S: Drop>(
+fn make_unready<N: SupNaming, J: Drop, S: Drop>(
     cause: Refusal,
     shared: Shared<N, J, S>,
 ) -> Unready<N, J, S>
@@ -162,7 +161,7 @@ fn make_unready<N: WordsNaming + InboxNaming + PlanNaming, J: Drop, S: Drop>(
 }
 
 /// Takes all supervisors out of their locks.
-fn unlock_all<N: WordsNaming + InboxNaming + PlanNaming, B: Drop>(
+fn unlock_all<N: SupNaming, B: Drop>(
     sups: Vec<Sup<N, B>>,
     mut unlocked: Vec<Unlocked<N, B>>,
 ) -> Vec<Unlocked<N, B>>
@@ -179,7 +178,7 @@ fn unlock_all<N: WordsNaming + InboxNaming + PlanNaming, B: Drop>(
 }
 
 /// Puts all supervisors back under their locks.
-fn lock_all<N: WordsNaming + InboxNaming + PlanNaming, J: Drop, S: Drop>(
+fn lock_all<N: SupNaming, J: Drop, S: Drop>(
     words: Words<N>,
     outer: Inbox<N, Message, Letter<Body<J, S>>>,
     sups: Vec<Unlocked<N, Body<J, S>>>,

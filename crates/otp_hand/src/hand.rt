@@ -4,15 +4,14 @@ ghost use Rattle.otp_spec.specs.declared.limits.TheConstants.{MAX_READING};
 ghost use Rattle.otp_hand.specs.Readings.{HasRead};
 ghost use Rattle.otp_hand.specs.Standings.{standing_of};
 
+use crate::naming::TreeNaming;
 use crate::reading::read_at;
 use crate::runner::Runner;
 use crate::senders::Senders;
 use otp_counts::CountsPass;
-use otp_inbox::InboxNaming;
 use otp_job::Body;
 use otp_rules::CountsNow;
-use otp_run::RunNaming;
-use otp_signals::{Signal, Words, WordsNaming};
+use otp_signals::{Signal, Words};
 use otp_sup::{PlanNaming, Sup, TurnAnswer, TurnFault};
 use otp_wake::Post;
 use std::alloc::AllocError;
@@ -25,13 +24,13 @@ use std::sync::{Arc, Wait};
 /// As many processes began at its scheduler as starts were credited to its senders, and one more, the root's, in the first
 /// hand. As many ended there as its senders sent end notes, and one more where it still has one to send.
 #[derive(Drop)]
-pub struct Hand<N: WordsNaming + InboxNaming + RunNaming, J: Drop, S: Drop> {
+pub struct Hand<N: TreeNaming, J: Drop, S: Drop> {
     pub runner: Runner<N, J, S>,
     pub senders: Senders<N, Body<J, S>>,
     pub passes: Vec<CountsPass>,
 }
 
-impl<N: WordsNaming + InboxNaming + RunNaming, J: Drop, S: Drop> Model for Hand<N, J, S> {
+impl<N: TreeNaming, J: Drop, S: Drop> Model for Hand<N, J, S> {
     ghost use Rattle.std.specs.Prelude.{◌≡◌};
     ghost use Rattle.otp_hand.specs.Hands.{HandView};
     ghost use Rattle.otp_hand.specs.Begun.{HasCredited};
@@ -44,7 +43,7 @@ impl<N: WordsNaming + InboxNaming + RunNaming, J: Drop, S: Drop> Model for Hand<
     ghost invariant = { λ h. HasCredited h.runner.scheduler h.senders × HasEnded h.runner.scheduler h.senders h.runner.unsent };
 }
 
-impl<N: WordsNaming + InboxNaming + RunNaming, J: Drop, S: Drop> Hand<N, J, S> {
+impl<N: TreeNaming, J: Drop, S: Drop> Hand<N, J, S> {
     /// Gives the processes that wait back to the run queue, as far as there is memory: each has its turn again when it comes
     /// there, in any hand. Whoever closes a tree does this first, so that they are
     /// among the processes of the report.

@@ -2,11 +2,9 @@
 
 use crate::locked::{Locked, ReachNaming};
 use otp_core::ReplyAnswer;
-use otp_inbox::InboxNaming;
 use otp_job::Body;
 use otp_rules::{Call, Reply};
-use otp_signals::WordsNaming;
-use otp_sup::PlanNaming;
+use otp_sup::SupNaming;
 use otp_tree::{CallRefusal, System, Uncalled};
 use otp_wake::{Bells, Stop};
 use std::alloc::{AllocError, Global};
@@ -194,7 +192,7 @@ impl<J: Drop, S: Drop> Caller<J, S> {
         client: &Mutex<Locked<N, K, J, S>>,
     ) -> Option<usize>
     where
-        N: WordsNaming + InboxNaming + PlanNaming,
+        N: SupNaming,
         K: ReachNaming,
         R: Wait,
     {
@@ -226,7 +224,7 @@ impl<J: Drop, S: Drop> Caller<J, S> {
     /// Looks whether its call was answered, and tells it. Other hands look after this one.
     pub(crate) fn collect<N, R>(&self, rt: &R, system: &System<N, J, S>)
     where
-        N: WordsNaming + InboxNaming + PlanNaming,
+        N: SupNaming,
         R: Wait,
     {
         let mut stage = self.stage.lock(rt);
@@ -275,7 +273,7 @@ fn answer_of<N, R, J, S>(
     number: u64,
 ) -> Option<Answer<J, S>>
 where
-    N: WordsNaming + InboxNaming + PlanNaming,
+    N: SupNaming,
     R: Wait,
     J: Drop,
     S: Drop,

@@ -16,11 +16,9 @@ use crate::served::serve_tree;
 use crate::span::{Span, sooner};
 use crate::watch::Watch;
 use otp_bridge::Subsystem;
-use otp_inbox::InboxNaming;
+use otp_hand::TreeNaming;
 use otp_job::Job;
-use otp_run::RunNaming;
-use otp_signals::WordsNaming;
-use otp_sup::PlanNaming;
+use otp_sup::SupNaming;
 use otp_tree::{Hand, Report, RunFault, System, SystemFault, TablePlan};
 use otp_wake::{Post, Stop};
 use std::alloc::{AllocError, Global};
@@ -257,7 +255,7 @@ pub(crate) fn serve<N, K, R, J, S, W>(
     client: &Mutex<Locked<N, K, J, S>>,
 )
 where
-    N: WordsNaming + InboxNaming + PlanNaming + RunNaming,
+    N: TreeNaming,
     K: ReachNaming,
     R: Wait + Clock,
     J: Job,
@@ -298,7 +296,7 @@ fn serve_some<N, R, J, S, W>(
     hand: &mut Hand<N, J, S>,
 ) -> bool
 where
-    N: WordsNaming + InboxNaming + PlanNaming + RunNaming,
+    N: TreeNaming,
     R: Wait + Clock,
     J: Job,
     S: Subsystem,
@@ -322,7 +320,7 @@ fn ask<N, K, R, J, S, W>(
     client: &Mutex<Locked<N, K, J, S>>,
 )
 where
-    N: WordsNaming + InboxNaming + PlanNaming,
+    N: SupNaming,
     K: ReachNaming,
     R: Wait + Clock,
     J: Drop,
@@ -343,7 +341,7 @@ fn send_calls<N, K, R, J, S, W>(
     client: &Mutex<Locked<N, K, J, S>>,
 )
 where
-    N: WordsNaming + InboxNaming + PlanNaming,
+    N: SupNaming,
     K: ReachNaming,
     R: Wait + Clock,
     J: Drop,
@@ -361,7 +359,7 @@ where
 /// Looks whether calls were answered, and tells those who made them.
 fn collect_answers<N, R, J, S, W>(rt: &R, seat: &Seat<'_, R, W, J, S>, system: &System<N, J, S>)
 where
-    N: WordsNaming + InboxNaming + PlanNaming,
+    N: SupNaming,
     R: Wait + Clock,
     J: Drop,
     S: Drop,
@@ -404,7 +402,7 @@ fn sleep<N, R, J, S, W>(
     hand: &mut Hand<N, J, S>,
 )
 where
-    N: WordsNaming + InboxNaming + PlanNaming + RunNaming,
+    N: TreeNaming,
     R: Wait + Clock,
     J: Job,
     S: Subsystem,

@@ -15,11 +15,8 @@ use crate::locked::{Locked, ReachNaming};
 use crate::seat::Seat;
 use crate::watch::Watch;
 use otp_bridge::Subsystem;
-use otp_inbox::InboxNaming;
+use otp_hand::TreeNaming;
 use otp_job::{Body, Job};
-use otp_run::RunNaming;
-use otp_signals::WordsNaming;
-use otp_sup::PlanNaming;
 use otp_tree::{Client, Hand, MAX_HANDS, Opened, Parts, Report, RunFault, System, TablePlan};
 use std::alloc::Global;
 use std::marker::Brand;
@@ -62,7 +59,7 @@ fn serve_named<N, R, J, S, W>(
     crew: &Crew<'_, R, W, J, S>,
 ) -> Result<Report<J, S>, RunFault<J, S>>
 where
-    N: WordsNaming + InboxNaming + PlanNaming + RunNaming + Send + Sync,
+    N: TreeNaming + Send + Sync,
     R: Threads + Wait + Clock + Sync,
     J: Job + Send,
     S: Subsystem + Send,
@@ -111,7 +108,7 @@ fn serve_locked<N, K, R, J, S, W>(
     client: Client<N, Body<J, S>>,
 ) -> Client<N, Body<J, S>>
 where
-    N: WordsNaming + InboxNaming + PlanNaming + RunNaming + Send + Sync,
+    N: TreeNaming + Send + Sync,
     K: ReachNaming + Send + Sync,
     R: Threads + Wait + Clock + Sync,
     J: Job + Send,
@@ -135,7 +132,7 @@ fn serve_all<N, K, R, J, S, W>(
     client: &Mutex<Locked<N, K, J, S>>,
 )
 where
-    N: WordsNaming + InboxNaming + PlanNaming + RunNaming + Send + Sync,
+    N: TreeNaming + Send + Sync,
     K: ReachNaming + Send + Sync,
     R: Threads + Wait + Clock + Sync,
     J: Job + Send,
@@ -155,7 +152,7 @@ fn serve_each<N, K, R, J, S, W>(
     client: &Mutex<Locked<N, K, J, S>>,
 )
 where
-    N: WordsNaming + InboxNaming + PlanNaming + RunNaming + Send + Sync,
+    N: TreeNaming + Send + Sync,
     K: ReachNaming + Send + Sync,
     R: Threads + Wait + Clock + Sync,
     J: Job + Send,
@@ -183,7 +180,7 @@ fn serve_at<N, K, R, J, S, W>(
     client: &Mutex<Locked<N, K, J, S>>,
 )
 where
-    N: WordsNaming + InboxNaming + PlanNaming + RunNaming,
+    N: TreeNaming,
     K: ReachNaming,
     R: Wait + Clock,
     J: Job,

@@ -15,12 +15,12 @@ use crate::opening::SystemFault;
 use crate::passes::split_all;
 use otp_counts::CountsPass;
 use otp_hand::places::keep;
-use otp_hand::{Around, Hand, Resting, Runner, Senders, Shared, Waiting};
+use otp_hand::{Around, Hand, Resting, Runner, Senders, Shared, TreeNaming, Waiting};
 use otp_inbox::{InboxNaming, Sender};
 use otp_job::{Body, Process};
 use otp_run::{RunNaming, Scheduler};
-use otp_signals::{Viewer, WordsNaming};
-use otp_sup::{Letter, Message, PlanNaming};
+use otp_signals::Viewer;
+use otp_sup::{Letter, Message, SupNaming};
 use otp_tally::Tally;
 use std::alloc::{AllocError, Global};
 
@@ -75,7 +75,7 @@ fn begin_first<N: RunNaming, J: Drop, S: Drop>(
 
 /// A sender to each supervisor and to whoever opened the tree, with so many parts of the right to send. None where
 /// not more are there.
-fn split_senders<N: WordsNaming + InboxNaming + PlanNaming, J: Drop, S: Drop>(
+fn split_senders<N: SupNaming, J: Drop, S: Drop>(
     alloc: Global,
     shared: &Shared<N, J, S>,
     senders: &mut Senders<N, Body<J, S>>,
@@ -112,7 +112,7 @@ fn split_senders<N: WordsNaming + InboxNaming + PlanNaming, J: Drop, S: Drop>(
 }
 
 /// A hand of a scheduler, with a viewer, a sender to each supervisor and a pass to the counts of each, which are split off.
-fn make_hand<N: WordsNaming + InboxNaming + PlanNaming + RunNaming, J: Drop, S: Drop>(
+fn make_hand<N: TreeNaming, J: Drop, S: Drop>(
     alloc: Global,
     shared: &Shared<N, J, S>,
     scheduler: Scheduler<N, J, S>,
@@ -161,7 +161,7 @@ fn make_hand<N: WordsNaming + InboxNaming + PlanNaming + RunNaming, J: Drop, S: 
 }
 
 /// A hand for each scheduler. The first has the root's process.
-pub fn make_hands<N: WordsNaming + InboxNaming + PlanNaming + RunNaming, J: Drop, S: Drop>(
+pub fn make_hands<N: TreeNaming, J: Drop, S: Drop>(
     alloc: Global,
     shared: &Shared<N, J, S>,
     schedulers: Vec<Scheduler<N, J, S>>,

@@ -15,11 +15,11 @@ ghost use Rattle.otp_open.specs.Plans.{HasBodies, HaveBodies, IsOpenFault, IsUnr
 use crate::plan::TablePlan;
 use otp_counts::{CountsPass, Publisher};
 use otp_hand::places::{keep, next_of};
-use otp_inbox::{InboxNaming, Sender, Taker, UnnamedInbox};
+use otp_inbox::{Sender, Taker, UnnamedInbox};
 use otp_job::Body;
 use otp_signals::{Owner, Words, WordsNaming};
 use otp_spec::{MAX_CHILDREN, SupSpec};
-use otp_sup::{Bodies, Letter, Message, Office, PlanNaming, Sup, Table, count_opened};
+use otp_sup::{Bodies, Letter, Message, Office, Sup, SupNaming, Table, count_opened};
 use std::alloc::{AllocError, Global};
 
 /// How many slots of signal words each supervisor has: one for each child that there can be.
@@ -71,14 +71,14 @@ pub fn open_inboxes<B: Drop>(
 
 /// A supervisor under its number, the first sender to it, and the first pass to its counts.
 #[derive(Drop)]
-struct NamedOne<N: WordsNaming + InboxNaming + PlanNaming, J: Drop, S: Drop> {
+struct NamedOne<N: SupNaming, J: Drop, S: Drop> {
     sup: Sup<N, Body<J, S>>,
     sender: Sender<N, Message, Letter<Body<J, S>>>,
     pass: CountsPass,
 }
 
 /// One supervisor under its number. Its seat is cut off the owner.
-fn open_one<N: WordsNaming + InboxNaming + PlanNaming, J: Drop, S: Drop>(
+fn open_one<N: SupNaming, J: Drop, S: Drop>(
     alloc: Global,
     words: &Words<N>,
     owner: &mut Owner<N>,
@@ -132,7 +132,7 @@ fn ready_bodies<B: Drop>(
 }
 
 /// A supervisor that has its seat and its bodies.
-fn open_seated<N: WordsNaming + InboxNaming + PlanNaming, J: Drop, S: Drop>(
+fn open_seated<N: SupNaming, J: Drop, S: Drop>(
     alloc: Global,
     inbox: UnnamedInbox<Message, Letter<Body<J, S>>>,
     number: usize,
@@ -159,7 +159,7 @@ fn open_seated<N: WordsNaming + InboxNaming + PlanNaming, J: Drop, S: Drop>(
 }
 
 /// The table of a supervisor that was never opened, and the first pass to its counts.
-fn open_table<N: WordsNaming + InboxNaming + PlanNaming, B: Drop>(
+fn open_table<N: SupNaming, B: Drop>(
     alloc: Global,
     office: Office<N>,
     taker: Taker<N, Message, Letter<B>>,
@@ -218,13 +218,13 @@ fn hand_in_all<B: Drop>(alloc: Global, bodies: Vec<B>) -> Result<Bodies<B>, Allo
 
 /// All supervisors under their numbers, the first sender to each, and the first pass to the counts of each.
 #[derive(Drop)]
-pub struct Named<N: WordsNaming + InboxNaming + PlanNaming, J: Drop, S: Drop> {
+pub struct Named<N: SupNaming, J: Drop, S: Drop> {
     pub sups: Vec<Sup<N, Body<J, S>>>,
     pub senders: Vec<Sender<N, Message, Letter<Body<J, S>>>>,
     pub passes: Vec<CountsPass>,
 }
 
-impl<N: WordsNaming + InboxNaming + PlanNaming, J: Drop, S: Drop> Named<N, J, S> {
+impl<N: SupNaming, J: Drop, S: Drop> Named<N, J, S> {
     /// None so far.
     fn new(alloc: Global) -> Self
         ensures sups { result.sups.items ≡ [] }
@@ -259,7 +259,7 @@ impl<N: WordsNaming + InboxNaming + PlanNaming, J: Drop, S: Drop> Named<N, J, S>
 }
 
 /// All supervisors of these plans, each under the number of its place. Their seats are cut off the owner.
-pub fn open_all<N: WordsNaming + InboxNaming + PlanNaming, J: Drop, S: Drop>(
+pub fn open_all<N: SupNaming, J: Drop, S: Drop>(
     alloc: Global,
     words: &Words<N>,
     owner: &mut Owner<N>,

@@ -20,7 +20,7 @@ pub mod table;
 
 pub use client::{Client, SplitFault, SubmitCause, SubmitFault};
 pub use cut::CutAnswer;
-pub use naming::PlanNaming;
+pub use naming::{PlanNaming, SupNaming};
 pub use otp_bodies::{
     Bodies, Evidence, Flushed, Kept, Launched, Letter, MemoryPort, Message, NewProcess, Origin,
     Place, Port, ToldEnd, ToldNote, count_opened, evidence_of,

@@ -1,4 +1,6 @@
-//! Which supervisor has which plan.
+//! Which supervisor has which plan, and the one bound for all that a supervisor's name says.
+use otp_inbox::InboxNaming;
+use otp_signals::WordsNaming;
 use std::marker::Brand;
 
 /// A name for the supervisors of a program: with which flags and child specifications each was opened, by the number of
@@ -19,3 +21,8 @@ impl PlanNaming for Brand {
 
     ghost plan = { λ number. no_plan };
 }
+
+/// A name for supervisors with all that they stand on: their words, their inboxes and their plans.
+pub trait SupNaming: WordsNaming + InboxNaming + PlanNaming {}
+
+impl<N: WordsNaming + InboxNaming + PlanNaming> SupNaming for N {}

@@ -13,7 +13,7 @@ ghost use Rattle.otp_office.specs.Answers.{HasTurned};
 ghost use Rattle.otp_sup.specs.Turns.{HadBody, HadTurn, HasDeadline, HasReply, KeepsReply, IsFlushed, IsOfAnother, TurnedUnder};
 ghost use Rattle.otp_office.specs.declared.turns.TurnAnswer.TheVariants as answer;
 
-use crate::naming::PlanNaming;
+use crate::naming::SupNaming;
 use crate::table::Table;
 use otp_bodies::{Flushed, Letter, Message, Port, ToldEnd};
 use otp_core::{Core, ReplyAnswer};
@@ -29,12 +29,12 @@ use std::sync::{Mutex, Wait};
 /// A supervisor that threads share: a table under its lock, beside its inbox, so that whoever sends to it doesn't wait
 /// for the lock.
 #[derive(Drop)]
-pub struct Sup<N: WordsNaming + InboxNaming + PlanNaming, B: Drop> {
+pub struct Sup<N: SupNaming, B: Drop> {
     inbox: Inbox<N, Message, Letter<B>>,
     table: Mutex<Table<N, B>>,
 }
 
-impl<N: WordsNaming + InboxNaming + PlanNaming, B: Drop> Sup<N, B> {
+impl<N: SupNaming, B: Drop> Sup<N, B> {
     /// Puts the table under a lock.
     pub fn new(inbox: Inbox<N, Message, Letter<B>>, table: Table<N, B>) -> Self
         requires { inbox ≡ table.taker.inbox }
@@ -191,12 +191,12 @@ impl Displaced {
 
 /// A supervisor that is out of its lock: its inbox, and its table as the last turn left it.
 #[derive(Drop)]
-pub struct Unlocked<N: WordsNaming + InboxNaming + PlanNaming, B: Drop> {
+pub struct Unlocked<N: SupNaming, B: Drop> {
     inbox: Inbox<N, Message, Letter<B>>,
     table: Table<N, B>,
 }
 
-impl<N: WordsNaming + InboxNaming + PlanNaming, B: Drop> Model for Unlocked<N, B> {
+impl<N: SupNaming, B: Drop> Model for Unlocked<N, B> {
     ghost use Rattle.otp_sup.specs.Facts.{UnlockedView};
 
     ghost Value = { UnlockedView };
@@ -220,7 +220,7 @@ pub struct SupParts<N: WordsNaming + InboxNaming, B: Drop> {
     pub ends_told: Vec<ToldEnd>,
 }
 
-impl<N: WordsNaming + InboxNaming + PlanNaming, B: Drop> Unlocked<N, B> {
+impl<N: SupNaming, B: Drop> Unlocked<N, B> {
     /// Its inbox.
     pub fn inbox(&self) -> &Inbox<N, Message, Letter<B>>
         ensures { result.now ≡ self.now.inbox }
@@ -304,7 +304,7 @@ impl<N: WordsNaming + InboxNaming + PlanNaming, B: Drop> Unlocked<N, B> {
 }
 
 /// Makes a checkpoint where a turn answered that the core is full. Such a turn left nothing to be sent.
-fn cut_where_full<N: WordsNaming + InboxNaming + PlanNaming, B: Drop>(
+fn cut_where_full<N: SupNaming, B: Drop>(
     table: &mut Table<N, B>,
     said: &Result<TurnAnswer, TurnFault>,
 )
@@ -324,7 +324,7 @@ fn was_sent(flushed: Flushed) -> bool
 }
 
 /// Sends orders until none is left or the port refuses.
-fn flush_all<N: WordsNaming + InboxNaming + PlanNaming, B: Drop, P: Port<B>>(
+fn flush_all<N: SupNaming, B: Drop, P: Port<B>>(
     table: &mut Table<N, B>,
     words: &Words<N>,
     inbox: &Inbox<N, Message, Letter<B>>,

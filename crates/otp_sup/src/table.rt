@@ -25,7 +25,7 @@ ghost use Rattle.otp_sup.specs.Turns.{Turned};
 
 use crate::cut::CutAnswer;
 use crate::moves::{come_back, happen, leave};
-use crate::naming::PlanNaming;
+use crate::naming::SupNaming;
 use otp_bodies::{Bodies, Evidence, Flushed, Letter, Message, Port, ToldEnd, keep_end};
 use otp_core::{CutFault, ReplyAnswer};
 use otp_counts::{CountsPass, Publisher};
@@ -40,7 +40,7 @@ use std::sync::Wait;
 /// What lies under a supervisor's lock: its core with seat and orders, the taker of its inbox, the bodies that it keeps,
 /// the right to publish its counts, and the ends of supervisors that it was told.
 #[derive(Drop)]
-pub struct Table<N: WordsNaming + InboxNaming + PlanNaming, B: Drop> {
+pub struct Table<N: SupNaming, B: Drop> {
     office: Office<N>,
     taker: Taker<N, Message, Letter<B>>,
     bodies: Bodies<B>,
@@ -49,7 +49,7 @@ pub struct Table<N: WordsNaming + InboxNaming + PlanNaming, B: Drop> {
     of: PhantomData<N>,
 }
 
-impl<N: WordsNaming + InboxNaming + PlanNaming, B: Drop> Model for Table<N, B> {
+impl<N: SupNaming, B: Drop> Model for Table<N, B> {
     ghost use Rattle.otp_sup.specs.Facts.{TableView, IsTable};
 
     ghost Value = { TableView };
@@ -66,7 +66,7 @@ fn publish<N: WordsNaming>(office: &Office<N>, counts: &mut Publisher)
     counts.publish(office.counts());
 }
 
-impl<N: WordsNaming + InboxNaming + PlanNaming, B: Drop> Table<N, B> {
+impl<N: SupNaming, B: Drop> Table<N, B> {
     /// The table of a supervisor that was never opened, with the bodies of its child specifications: one at least for
     /// each child that an opening makes ([`Bodies::are_ready`], [`count_opened`]). Published of it is
     /// what it counts now, and nothing before ([`Office::counts`]).

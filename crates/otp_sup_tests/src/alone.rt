@@ -4,18 +4,18 @@ ghost use Rattle.std.specs.Prelude.{◌≡◌, ◌≤◌, ◌<◌, ◌^◌};
 use crate::fixtures::{Post, hand_in_all, has_told_end, same, seat_table};
 use crate::script::{Known, Stand, Step, known_of};
 use crate::shut::Shut;
-use otp_inbox::{Inbox, InboxNaming, Sender, UnnamedInbox};
+use otp_inbox::{Inbox, Sender, UnnamedInbox};
 use otp_reason::Note;
-use otp_signals::{OpenWords, Signal, Viewer, Words, WordsNaming};
+use otp_signals::{OpenWords, Signal, Viewer, Words};
 use otp_spec::SupSpec;
-use otp_sup::{Flushed, MemoryPort, Message, NewProcess, PlanNaming, Table, TurnAnswer, TurnFault};
+use otp_sup::{Flushed, MemoryPort, Message, NewProcess, SupNaming, Table, TurnAnswer, TurnFault};
 use std::alloc::Global;
 use std::process::Abort;
 use std::sync::Wait;
 
 // A table, and what a test needs to drive it.
 #[derive(Drop)]
-pub(crate) struct Alone<N: WordsNaming + InboxNaming + PlanNaming> {
+pub(crate) struct Alone<N: SupNaming> {
     words: Words<N>,
     viewer: Viewer<N>,
     inbox: Inbox<N, Message, Post>,
@@ -25,7 +25,7 @@ pub(crate) struct Alone<N: WordsNaming + InboxNaming + PlanNaming> {
 }
 
 // A table of these children, with these bodies for the specifications.
-pub(crate) fn make_table<N: WordsNaming + InboxNaming + PlanNaming, R: Abort>(
+pub(crate) fn make_table<N: SupNaming, R: Abort>(
     rt: &R,
     alloc: Global,
     words: OpenWords,
@@ -57,7 +57,7 @@ pub(crate) fn make_table<N: WordsNaming + InboxNaming + PlanNaming, R: Abort>(
     }
 }
 
-impl<N: WordsNaming + InboxNaming + PlanNaming> Alone<N> {
+impl<N: SupNaming> Alone<N> {
     // The table takes from the inbox, and the sender, which is credited with what the table does, sends to it.
     fn fits<R: Abort>(&self, rt: &R)
         ensures table { self.now.table.taker.inbox ≡ self.now.inbox }
@@ -106,7 +106,7 @@ impl<N: WordsNaming + InboxNaming + PlanNaming> Alone<N> {
     }
 }
 
-impl<N: WordsNaming + InboxNaming + PlanNaming> Stand for Alone<N> {
+impl<N: SupNaming> Stand for Alone<N> {
     fn turn<R: Wait + Abort>(
         &mut self,
         rt: &R,

@@ -4,12 +4,12 @@ ghost use Rattle.std.specs.Prelude.{◌≡◌};
 use crate::driven::{Driven, make_driven};
 use crate::fixtures::{Post, childless, got, open_parts, same};
 use otp_core::{History, ReplyAnswer};
-use otp_inbox::{InboxNaming, Sender, UnnamedInbox};
+use otp_inbox::{Sender, UnnamedInbox};
 use otp_rules::{Call, CountsNow, Item, Kind, Reply};
-use otp_signals::{OpenWords, Signal, Words, WordsNaming};
+use otp_signals::{OpenWords, Signal, Words};
 use otp_spec::SupSpec;
 use otp_sup::{
-    Client, MemoryPort, Message, PlanNaming, SplitFault, SubmitCause, Sup, TurnAnswer, TurnFault,
+    Client, MemoryPort, Message, SplitFault, SubmitCause, Sup, SupNaming, TurnAnswer, TurnFault,
 };
 use std::alloc::Global;
 use std::marker::Brand;
@@ -28,10 +28,13 @@ fn two_clients_and_a_hand(rt: HostRuntime) {
     clients_in::<Brand, _>(&rt, rt.alloc(), words, inbox, supervisor);
 }
 
-fn clients_in<
-    N: WordsNaming + InboxNaming + PlanNaming + Send + Sync,
-    R: Threads + Wait + Abort + Sync,
->(rt: &R, alloc: Global, words: OpenWords, inbox: UnnamedInbox<Message, Post>, supervisor: SupSpec)
+fn clients_in<N: SupNaming + Send + Sync, R: Threads + Wait + Abort + Sync>(
+    rt: &R,
+    alloc: Global,
+    words: OpenWords,
+    inbox: UnnamedInbox<Message, Post>,
+    supervisor: SupSpec,
+)
     requires words { words.words ≡ N.words }
     requires slots { words.slots ≡ 256 }
     requires inbox { inbox ≡ N.inbox 0 }
@@ -55,10 +58,7 @@ fn clients_in<
 }
 
 // It opens, and then two clients send while it is served: the numbers of the calls of each.
-fn send_from_threads<
-    N: WordsNaming + InboxNaming + PlanNaming + Send + Sync,
-    R: Threads + Wait + Abort + Sync,
->(
+fn send_from_threads<N: SupNaming + Send + Sync, R: Threads + Wait + Abort + Sync>(
     rt: &R,
     alloc: Global,
     words: &Words<N>,
@@ -85,7 +85,7 @@ fn send_from_threads<
 }
 
 // The history has each call once, and no other event but the opening.
-fn are_taken<N: WordsNaming + InboxNaming + PlanNaming, R: Wait + Abort>(
+fn are_taken<N: SupNaming, R: Wait + Abort>(
     rt: &R,
     alloc: Global,
     sup: Sup<N, u64>,
@@ -133,7 +133,7 @@ fn are_once(taken: &[u64], calls: &[u64]) -> bool {
 }
 
 // Another client with half of the numbers; the first can't have more than it has, and sends no body that no call wants.
-fn split<N: WordsNaming + InboxNaming + PlanNaming, R: Wait + Abort>(
+fn split<N: SupNaming, R: Wait + Abort>(
     rt: &R,
     first: &mut Client<N, u64>,
     words: &Words<N>,
@@ -151,7 +151,7 @@ fn split<N: WordsNaming + InboxNaming + PlanNaming, R: Wait + Abort>(
 }
 
 // Sends its calls, and answers their numbers. One more is refused, as no number is left.
-fn send_all<N: WordsNaming + InboxNaming + PlanNaming, R: Wait + Abort>(
+fn send_all<N: SupNaming, R: Wait + Abort>(
     rt: &R,
     alloc: Global,
     sup: &Sup<N, u64>,
@@ -173,7 +173,7 @@ fn send_all<N: WordsNaming + InboxNaming + PlanNaming, R: Wait + Abort>(
     numbers
 }
 
-fn send_one<N: WordsNaming + InboxNaming + PlanNaming, R: Wait + Abort>(
+fn send_one<N: SupNaming, R: Wait + Abort>(
     rt: &R,
     sup: &Sup<N, u64>,
     words: &Words<N>,
@@ -185,7 +185,7 @@ fn send_one<N: WordsNaming + InboxNaming + PlanNaming, R: Wait + Abort>(
 }
 
 // A turn, with which this sender is credited.
-fn turn<N: WordsNaming + InboxNaming + PlanNaming, R: Wait + Abort>(
+fn turn<N: SupNaming, R: Wait + Abort>(
     rt: &R,
     sup: &Sup<N, u64>,
     words: &Words<N>,
@@ -198,7 +198,7 @@ fn turn<N: WordsNaming + InboxNaming + PlanNaming, R: Wait + Abort>(
 }
 
 // Takes turns until all calls were taken: no other item comes.
-fn serve<N: WordsNaming + InboxNaming + PlanNaming, R: Wait + Abort>(
+fn serve<N: SupNaming, R: Wait + Abort>(
     rt: &R,
     sup: &Sup<N, u64>,
     words: &Words<N>,
@@ -221,11 +221,7 @@ fn serve<N: WordsNaming + InboxNaming + PlanNaming, R: Wait + Abort>(
 }
 
 // Each call was taken once, and answered.
-fn answered<N: WordsNaming + InboxNaming + PlanNaming, R: Wait + Abort>(
-    rt: &R,
-    sup: &Sup<N, u64>,
-    numbers: &[u64],
-) {
+fn answered<N: SupNaming, R: Wait + Abort>(rt: &R, sup: &Sup<N, u64>, numbers: &[u64]) {
     same(rt, "the calls", numbers.len() as u64, CALLS);
     for number in numbers {
         let reply = got(rt, "memory was refused", sup.reply(rt, *number));

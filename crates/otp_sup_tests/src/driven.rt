@@ -7,13 +7,13 @@ ghost use Rattle.std.specs.Prelude.{◌≡◌, ◌≤◌, ◌^◌};
 use crate::fixtures::{Post, got, hand_in_all, has_told_end, open_parts, same, seat_table, second};
 use crate::script::{Known, Stand, Step, known_of, play};
 use otp_core::ReplyAnswer;
-use otp_inbox::{InboxNaming, Sender, UnnamedInbox};
+use otp_inbox::{Sender, UnnamedInbox};
 use otp_reason::Note;
 use otp_rules::Call;
-use otp_signals::{OpenWords, Signal, Viewer, Words, WordsNaming};
+use otp_signals::{OpenWords, Signal, Viewer, Words};
 use otp_spec::SupSpec;
 use otp_sup::{
-    Client, MemoryPort, Message, NewProcess, PlanNaming, SubmitCause, Sup, TurnAnswer, TurnFault,
+    Client, MemoryPort, Message, NewProcess, SubmitCause, Sup, SupNaming, TurnAnswer, TurnFault,
 };
 use std::alloc::Global;
 use std::marker::Brand;
@@ -22,7 +22,7 @@ use std::sync::Wait;
 
 // A supervisor, and what a test needs to drive it.
 #[derive(Drop)]
-pub(crate) struct Driven<N: WordsNaming + InboxNaming + PlanNaming> {
+pub(crate) struct Driven<N: SupNaming> {
     pub(crate) words: Words<N>,
     pub(crate) viewer: Viewer<N>,
     pub(crate) sup: Sup<N, u64>,
@@ -34,7 +34,7 @@ pub(crate) struct Driven<N: WordsNaming + InboxNaming + PlanNaming> {
 }
 
 // A supervisor of these children, with these bodies for the specifications. Its client may send so many calls.
-pub(crate) fn make_driven<N: WordsNaming + InboxNaming + PlanNaming, R: Abort>(
+pub(crate) fn make_driven<N: SupNaming, R: Abort>(
     rt: &R,
     alloc: Global,
     words: OpenWords,
@@ -74,7 +74,7 @@ pub(crate) fn make_driven<N: WordsNaming + InboxNaming + PlanNaming, R: Abort>(
     }
 }
 
-impl<N: WordsNaming + InboxNaming + PlanNaming> Driven<N> {
+impl<N: SupNaming> Driven<N> {
     fn turn_once<R: Wait + Abort>(
         &mut self,
         rt: &R,
@@ -132,7 +132,7 @@ impl<N: WordsNaming + InboxNaming + PlanNaming> Driven<N> {
     }
 }
 
-impl<N: WordsNaming + InboxNaming + PlanNaming> Stand for Driven<N> {
+impl<N: SupNaming> Stand for Driven<N> {
     fn turn<R: Wait + Abort>(
         &mut self,
         rt: &R,
@@ -233,7 +233,7 @@ impl<N: WordsNaming + InboxNaming + PlanNaming> Stand for Driven<N> {
     }
 }
 
-fn play_under_lock<N: WordsNaming + InboxNaming + PlanNaming, R: Wait + Abort>(
+fn play_under_lock<N: SupNaming, R: Wait + Abort>(
     rt: &R,
     alloc: Global,
     words: OpenWords,

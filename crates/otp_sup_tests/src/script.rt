@@ -8,12 +8,12 @@ ghost use Rattle.otp_rules.specs.Homes.{is_start_call};
 use crate::alone::{Alone, make_table};
 use crate::fixtures::{Post, child, crash, got, open_parts, same, second};
 use otp_core::ReplyAnswer;
-use otp_inbox::{InboxNaming, UnnamedInbox};
+use otp_inbox::UnnamedInbox;
 use otp_reason::{Note, Reason};
 use otp_rules::{Call, CallFault, Reply};
-use otp_signals::{OpenWords, Signal, WordsNaming};
+use otp_signals::{OpenWords, Signal};
 use otp_spec::{MAX_EVENTS, MAX_READING, SupSpec};
-use otp_sup::{CutAnswer, Letter, Message, PlanNaming, TurnAnswer, TurnFault};
+use otp_sup::{CutAnswer, Letter, Message, SupNaming, TurnAnswer, TurnFault};
 use std::alloc::Global;
 use std::marker::Brand;
 use std::process::Abort;
@@ -295,11 +295,7 @@ pub(crate) fn play<S: Stand, R: Wait + Abort>(rt: &R, alloc: Global, one: &mut S
 }
 
 // As many events are stored at the end.
-fn stores<N: WordsNaming + InboxNaming + PlanNaming, R: Abort>(
-    rt: &R,
-    one: Alone<N>,
-    events: usize,
-) {
+fn stores<N: SupNaming, R: Abort>(rt: &R, one: Alone<N>, events: usize) {
     let (office, taker, counts, ends) = one.into_table().into_parts();
     drop(taker);
     drop(counts);
@@ -310,7 +306,7 @@ fn stores<N: WordsNaming + InboxNaming + PlanNaming, R: Abort>(
     drop(core);
 }
 
-fn play_in<N: WordsNaming + InboxNaming + PlanNaming, R: Wait + Abort>(
+fn play_in<N: SupNaming, R: Wait + Abort>(
     rt: &R,
     alloc: Global,
     words: OpenWords,

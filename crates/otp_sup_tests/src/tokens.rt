@@ -2,10 +2,9 @@
 use otp_bridge::BoxedSubsystem;
 use otp_inbox::{Inbox, InboxNaming, Sender, Taker};
 use otp_job::{Body, BoxedJob};
-use otp_signals::WordsNaming;
 use otp_sup::{
-    Bodies, Client, Evidence, Letter, MemoryPort, Message, NewProcess, Office, PlanNaming,
-    SubmitFault, Sup, SupParts, Table, ToldEnd, ToldNote, Unlocked,
+    Bodies, Client, Evidence, Letter, MemoryPort, Message, NewProcess, Office, SubmitFault, Sup,
+    SupNaming, SupParts, Table, ToldEnd, ToldNote, Unlocked,
 };
 
 type Boxed = Body<BoxedJob, BoxedSubsystem>;
@@ -25,7 +24,7 @@ pub fn inbox_crosses<N: InboxNaming + Send + Sync>(
     is_send(taker);
 }
 
-pub fn supervisor_crosses<N: WordsNaming + InboxNaming + PlanNaming + Send + Sync>(
+pub fn supervisor_crosses<N: SupNaming + Send + Sync>(
     sup: &Sup<N, Boxed>,
     table: &Table<N, Boxed>,
     office: &Office<N>,

@@ -16,7 +16,7 @@ use otp_job::Body;
 use otp_rules::{Call, Reply};
 use otp_signals::{Words, WordsNaming};
 use otp_spec::ChildType;
-use otp_sup::{Letter, Message, PlanNaming};
+use otp_sup::{Letter, Message, SupNaming};
 use std::alloc::{AllocError, Global};
 use std::sync::Wait;
 
@@ -41,7 +41,7 @@ pub struct Uncalled<B> {
     pub body: Option<B>,
 }
 
-impl<N: WordsNaming + InboxNaming + PlanNaming, J: Drop, S: Drop> System<N, J, S> {
+impl<N: SupNaming, J: Drop, S: Drop> System<N, J, S> {
     /// Sends a call to the supervisor with this number, with a body exactly where it starts a new child
     /// (supervisor, start_child/2), and answers the number of the call. The supervisor takes it in one of its turns; then
     /// [`System::reply`] has the answer under this number.

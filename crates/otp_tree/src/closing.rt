@@ -13,25 +13,23 @@ ghost use Rattle.otp_tree.specs.Closes.{IsAsItWas};
 
 use crate::system::System;
 use otp_close::{CloseFault, Intact, close, finish};
-use otp_hand::{Client, Hand};
-use otp_inbox::InboxNaming;
+use otp_hand::{Client, Hand, TreeNaming};
 use otp_job::Body;
 use otp_report::Report;
 use otp_run::RunNaming;
-use otp_signals::WordsNaming;
-use otp_sup::PlanNaming;
+use otp_sup::SupNaming;
 use std::alloc::Global;
 use std::sync::Wait;
 
 /// A tree that was not taken apart, as it was.
 #[derive(Drop)]
-pub struct Unclosed<N: WordsNaming + InboxNaming + PlanNaming + RunNaming, J: Drop, S: Drop> {
+pub struct Unclosed<N: TreeNaming, J: Drop, S: Drop> {
     pub system: System<N, J, S>,
     pub hands: Vec<Hand<N, J, S>>,
     pub client: Client<N, Body<J, S>>,
 }
 
-impl<N: WordsNaming + InboxNaming + PlanNaming, J: Drop, S: Drop> System<N, J, S> {
+impl<N: SupNaming, J: Drop, S: Drop> System<N, J, S> {
     /// Takes the tree apart, and reports what it was, with what is left in each inbox.
     ///
     /// Of each supervisor stands what [`Table::keeps_rules`](otp_sup::Table::keeps_rules) says; and no process number is a child's in
@@ -134,9 +132,7 @@ impl<N: WordsNaming + InboxNaming + PlanNaming, J: Drop, S: Drop> System<N, J, S
 }
 
 /// The tree as whoever opened it has it.
-fn given_back<N: WordsNaming + InboxNaming + PlanNaming + RunNaming, J: Drop, S: Drop>(
-    tree: Intact<N, J, S>,
-) -> Unclosed<N, J, S>
+fn given_back<N: TreeNaming, J: Drop, S: Drop>(tree: Intact<N, J, S>) -> Unclosed<N, J, S>
     ensures { IsAsItWas tree.shared tree.hands.items tree.client result }
 {
     let Intact {

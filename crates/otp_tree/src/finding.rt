@@ -4,13 +4,12 @@ ghost use Rattle.otp_hand.specs.Standings.{standing_of};
 
 use crate::system::System;
 use otp_hand::{Hand, Rested, Senders, Shared, is_due};
-use otp_inbox::InboxNaming;
 use otp_job::Body;
 use otp_run::{RunNaming, SHARE_LIMIT};
-use otp_signals::{Viewer, WordsNaming};
-use otp_sup::PlanNaming;
+use otp_signals::Viewer;
+use otp_sup::SupNaming;
 
-impl<N: WordsNaming + InboxNaming + PlanNaming, J: Drop, S: Drop> System<N, J, S> {
+impl<N: SupNaming, J: Drop, S: Drop> System<N, J, S> {
     /// Makes sure that a hand has a process whose turn it is. The first that is there of these: the supervisor to which the
     /// hand has just sent a letter, if that waits in this hand; one of a few supervisors that wait, for which something has
     /// come; one of some jobs that wait, which was told something; the next of the run queue (of other hands' deques now and then
@@ -119,7 +118,7 @@ impl<N: WordsNaming + InboxNaming + PlanNaming, J: Drop, S: Drop> System<N, J, S
 }
 
 /// The first of the supervisors at these places for which something has come.
-fn find_due<N: WordsNaming + InboxNaming + PlanNaming, J: Drop, S: Drop>(
+fn find_due<N: SupNaming, J: Drop, S: Drop>(
     shared: &Shared<N, J, S>,
     viewer: &mut Viewer<N>,
     senders: &mut Senders<N, Body<J, S>>,
@@ -141,7 +140,7 @@ fn find_due<N: WordsNaming + InboxNaming + PlanNaming, J: Drop, S: Drop>(
 }
 
 /// Whether something has come for a supervisor that waits: its deadline, a letter, or a signal that it didn't know of.
-fn has_come<N: WordsNaming + InboxNaming + PlanNaming, J: Drop, S: Drop>(
+fn has_come<N: SupNaming, J: Drop, S: Drop>(
     shared: &Shared<N, J, S>,
     viewer: &mut Viewer<N>,
     senders: &mut Senders<N, Body<J, S>>,

@@ -12,13 +12,13 @@ ghost use Rattle.otp_open.specs.Plans.{HaveBodies, IsOpenFault};
 
 use crate::system::System;
 use otp_counts::CountsPass;
-use otp_hand::{Client, Hand, ROOT_NUMBER, ROOT_SLOT, Shared};
-use otp_inbox::{InboxNaming, UnnamedInbox};
+use otp_hand::{Client, Hand, ROOT_NUMBER, ROOT_SLOT, Shared, TreeNaming};
+use otp_inbox::UnnamedInbox;
 use otp_job::{Body, Process, TableNo};
 use otp_open::{Named, SLOTS, SystemFault, TablePlan, make_hands, open_all, open_inboxes, seat};
-use otp_run::{RunNaming, RunQueue};
-use otp_signals::{OpenWords, WordsNaming};
-use otp_sup::{Letter, Message, PlanNaming};
+use otp_run::RunQueue;
+use otp_signals::OpenWords;
+use otp_sup::{Letter, Message};
 use std::alloc::{AllocError, Global};
 
 /// The parts of a tree, without a name.
@@ -33,7 +33,7 @@ pub struct Parts<J: Drop, S: Drop> {
 
 /// All that opening gives.
 #[derive(Drop)]
-pub struct Opened<N: WordsNaming + InboxNaming + PlanNaming + RunNaming, J: Drop, S: Drop> {
+pub struct Opened<N: TreeNaming, J: Drop, S: Drop> {
     pub system: System<N, J, S>,
     pub hands: Vec<Hand<N, J, S>>,
     pub client: Client<N, Body<J, S>>,
@@ -91,10 +91,7 @@ impl<J: Drop, S: Drop> Parts<J, S> {
 
 impl<J: Drop, S: Drop> Parts<J, S> {
     /// The tree under a name, with its hands and its first client.
-    pub fn named<N: WordsNaming + InboxNaming + PlanNaming + RunNaming>(
-        self,
-        alloc: Global,
-    ) -> Result<Opened<N, J, S>, SystemFault>
+    pub fn named<N: TreeNaming>(self, alloc: Global) -> Result<Opened<N, J, S>, SystemFault>
         requires words { self.words.words ≡ N.words }
         requires inboxes { AllAt (λ k id. id ≡ N.inbox k) self.inboxes.items }
         requires plans { AllAt (λ k plan. plan.supervisor ≡ N.plan k) self.plans.items }

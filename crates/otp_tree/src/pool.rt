@@ -7,12 +7,8 @@ use crate::clock::Gate;
 use crate::meeting::Meeting;
 use crate::system::System;
 use otp_bridge::Subsystem;
-use otp_hand::Hand;
-use otp_inbox::InboxNaming;
+use otp_hand::{Hand, TreeNaming};
 use otp_job::Job;
-use otp_run::RunNaming;
-use otp_signals::WordsNaming;
-use otp_sup::PlanNaming;
 use std::sync::Wait;
 use std::thread;
 use std::thread::Threads;
@@ -33,7 +29,7 @@ pub fn pool_run<N, J, S, R, G>(
     turns: u64,
 )
 where
-    N: WordsNaming + InboxNaming + PlanNaming + RunNaming + Send + Sync,
+    N: TreeNaming + Send + Sync,
     J: Job + Send,
     S: Subsystem + Send,
     R: Threads + Wait + Sync,
@@ -61,7 +57,7 @@ pub(crate) fn pool_all<N, J, S, R, G>(
     turns: u64,
 )
 where
-    N: WordsNaming + InboxNaming + PlanNaming + RunNaming + Send + Sync,
+    N: TreeNaming + Send + Sync,
     J: Job + Send,
     S: Subsystem + Send,
     R: Threads + Wait + Sync,
@@ -82,7 +78,7 @@ fn serve_beside<N, J, S, R, G>(
     meeting: &Meeting,
 )
 where
-    N: WordsNaming + InboxNaming + PlanNaming + RunNaming,
+    N: TreeNaming,
     J: Job,
     S: Subsystem,
     R: Wait,
@@ -116,7 +112,7 @@ fn turn_beside<N, J, S, R>(
     vain: &mut u64,
 ) -> bool
 where
-    N: WordsNaming + InboxNaming + PlanNaming + RunNaming,
+    N: TreeNaming,
     J: Job,
     S: Subsystem,
     R: Wait,
@@ -149,7 +145,7 @@ fn look_again<N, J, S, R>(
     reading: u64,
 ) -> bool
 where
-    N: WordsNaming + InboxNaming + PlanNaming + RunNaming,
+    N: TreeNaming,
     J: Job,
     S: Subsystem,
     R: Wait,

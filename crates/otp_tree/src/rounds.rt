@@ -16,16 +16,13 @@ use crate::system::System;
 use otp_bridge::Subsystem;
 use otp_close::CloseFault;
 use otp_core::ReplyAnswer;
-use otp_hand::{Client, Hand};
-use otp_inbox::InboxNaming;
+use otp_hand::{Client, Hand, TreeNaming};
 use otp_job::{Body, Job};
 use otp_open::{SystemFault, TablePlan};
 use otp_reason::Note;
 use otp_report::Report;
 use otp_rules::{Call, Reply};
-use otp_run::RunNaming;
-use otp_signals::WordsNaming;
-use otp_sup::PlanNaming;
+use otp_sup::SupNaming;
 use std::alloc::Global;
 use std::marker::Brand;
 use std::sync::Wait;
@@ -150,7 +147,7 @@ fn lead_named<N, R, J, S, G, L>(
     mut leader: L,
 ) -> Result<Led<J, S, L>, SystemFault>
 where
-    N: WordsNaming + InboxNaming + PlanNaming + RunNaming + Send + Sync,
+    N: TreeNaming + Send + Sync,
     R: Threads + Wait + Sync,
     J: Job + Send,
     S: Subsystem + Send,
@@ -217,7 +214,7 @@ fn make_round<N, R, J, S, G, L>(
     round: Round<J, S>,
 ) -> bool
 where
-    N: WordsNaming + InboxNaming + PlanNaming + RunNaming + Send + Sync,
+    N: TreeNaming + Send + Sync,
     R: Threads + Wait + Sync,
     J: Job + Send,
     S: Subsystem + Send,
@@ -259,7 +256,7 @@ where
 /// What became of a call so far.
 fn answer_to<N, R, J, S>(rt: &R, system: &System<N, J, S>, asked: CallId) -> CallEnd<J, S>
 where
-    N: WordsNaming + InboxNaming + PlanNaming,
+    N: SupNaming,
     R: Wait,
     J: Drop,
     S: Drop,

@@ -10,15 +10,14 @@ use crate::system::System;
 use otp_bridge::Subsystem;
 use otp_hand::places::put_into;
 use otp_hand::{Hand, Unsent};
-use otp_inbox::InboxNaming;
 use otp_job::{Body, Job};
 use otp_reason::Note;
 use otp_run::RunNaming;
-use otp_signals::{Signal, WordsNaming};
-use otp_sup::{Letter, PlanNaming, TurnAnswer};
+use otp_signals::Signal;
+use otp_sup::{Letter, SupNaming, TurnAnswer};
 use std::sync::Wait;
 
-impl<N: WordsNaming + InboxNaming + PlanNaming, J: Job, S: Subsystem> System<N, J, S> {
+impl<N: SupNaming, J: Job, S: Subsystem> System<N, J, S> {
     /// Gives a hand so many turns, in the thread that calls.
     ///
     /// A turn first sends a note that was refused before. Then it takes the process that the hand has out, or one that waited and

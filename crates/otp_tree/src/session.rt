@@ -8,13 +8,9 @@ ghost use Rattle.otp_open.specs.Plans.{HaveBodies, IsOpenFault};
 
 use crate::opening::{Opened, Parts};
 use crate::system::System;
-use otp_hand::{Client, Hand};
-use otp_inbox::InboxNaming;
+use otp_hand::{Client, Hand, TreeNaming};
 use otp_job::Body;
 use otp_open::{SystemFault, TablePlan};
-use otp_run::RunNaming;
-use otp_signals::WordsNaming;
-use otp_sup::PlanNaming;
 use std::alloc::Global;
 use std::marker::Brand;
 
@@ -27,7 +23,7 @@ pub trait Session<R, J: Drop, S: Drop>: Drop {
     type Output;
 
     /// Is called once, with the open tree.
-    fn run<N: WordsNaming + InboxNaming + PlanNaming + RunNaming + Send + Sync>(
+    fn run<N: TreeNaming + Send + Sync>(
         self,
         rt: &R,
         system: System<N, J, S>,
@@ -55,13 +51,12 @@ pub fn with_system<R, J: Drop, S: Drop, T: Session<R, J, S>>(
     run_named::<Brand, R, J, S, T>(rt, alloc, parts, session)
 }
 
-fn run_named<
-    N: WordsNaming + InboxNaming + PlanNaming + RunNaming + Send + Sync,
-    R,
-    J: Drop,
-    S: Drop,
-    T: Session<R, J, S>,
->(rt: &R, alloc: Global, parts: Parts<J, S>, session: T) -> Result<T::Output, SystemFault>
+fn run_named<N: TreeNaming + Send + Sync, R, J: Drop, S: Drop, T: Session<R, J, S>>(
+    rt: &R,
+    alloc: Global,
+    parts: Parts<J, S>,
+    session: T,
+) -> Result<T::Output, SystemFault>
     requires words { parts.words.words ≡ N.words }
     requires inboxes { AllAt (λ k id. id ≡ N.inbox k) parts.inboxes.items }
     requires plans { AllAt (λ k plan. plan.supervisor ≡ N.plan k) parts.plans.items }

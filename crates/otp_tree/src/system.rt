@@ -12,23 +12,21 @@ ghost use Rattle.otp_tree.specs.Hearings.{HeardNothing};
 use otp_hand::ending::count_end;
 use otp_hand::places::said_in;
 use otp_hand::{Client, Hand, Shared};
-use otp_inbox::InboxNaming;
 use otp_job::Body;
 use otp_reason::Note;
 use otp_rules::{CountsNow, Item};
 use otp_run::RunNaming;
-use otp_signals::WordsNaming;
-use otp_sup::PlanNaming;
+use otp_sup::SupNaming;
 use std::marker::Model;
 use std::sync::Wait;
 
 /// A tree, for whoever opened it: what all hands share, with all that can be done with it.
 #[derive(Drop)]
-pub struct System<N: WordsNaming + InboxNaming + PlanNaming, J: Drop, S: Drop> {
+pub struct System<N: SupNaming, J: Drop, S: Drop> {
     pub(crate) shared: Shared<N, J, S>,
 }
 
-impl<N: WordsNaming + InboxNaming + PlanNaming, J: Drop, S: Drop> Model for System<N, J, S> {
+impl<N: SupNaming, J: Drop, S: Drop> Model for System<N, J, S> {
     ghost use Rattle.otp_hand.specs.Hands.{SystemView};
 
     ghost Value = { SystemView };
@@ -36,7 +34,7 @@ impl<N: WordsNaming + InboxNaming + PlanNaming, J: Drop, S: Drop> Model for Syst
     ghost view = { λ s. s.shared };
 }
 
-impl<N: WordsNaming + InboxNaming + PlanNaming, J: Drop, S: Drop> System<N, J, S> {
+impl<N: SupNaming, J: Drop, S: Drop> System<N, J, S> {
     /// How many supervisors the tree has.
     pub fn tables(&self) -> usize
         ensures { result ≡ self.now.tables }

@@ -17,15 +17,11 @@ use otp_bridge::Subsystem;
 use otp_close::CloseFault;
 use otp_counts::CountsPass;
 use otp_hand::reading::read_each;
-use otp_hand::{Client, Hand};
-use otp_inbox::InboxNaming;
+use otp_hand::{Client, Hand, TreeNaming};
 use otp_job::{Body, Job};
 use otp_open::{SystemFault, TablePlan};
 use otp_report::Report;
 use otp_rules::CountsNow;
-use otp_run::RunNaming;
-use otp_signals::WordsNaming;
-use otp_sup::PlanNaming;
 use std::alloc::{AllocError, Global};
 use std::marker::Brand;
 use std::sync::Wait;
@@ -111,7 +107,7 @@ fn run_half<N, R, J, S, G>(
     passes: &mut [CountsPass],
 )
 where
-    N: WordsNaming + InboxNaming + PlanNaming + RunNaming + Send + Sync,
+    N: TreeNaming + Send + Sync,
     R: Threads + Wait + Sync,
     J: Job + Send,
     S: Subsystem + Send,
@@ -151,7 +147,7 @@ fn run_both<N, R, J, S, G>(
     counts: &mut Vec<CountsNow>,
 )
 where
-    N: WordsNaming + InboxNaming + PlanNaming + RunNaming + Send + Sync,
+    N: TreeNaming + Send + Sync,
     R: Threads + Wait + Sync,
     J: Job + Send,
     S: Subsystem + Send,
@@ -216,7 +212,7 @@ fn run_named<N, R, J, S, G>(
     turns: u64,
 ) -> Result<CountedRun<J, S>, RunFault<J, S>>
 where
-    N: WordsNaming + InboxNaming + PlanNaming + RunNaming + Send + Sync,
+    N: TreeNaming + Send + Sync,
     R: Threads + Wait + Sync,
     J: Job + Send,
     S: Subsystem + Send,

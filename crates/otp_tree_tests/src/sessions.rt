@@ -5,14 +5,11 @@ use crate::gates::Still;
 use crate::guests::{Common, Worker, common};
 use crate::lives::{Closed, Grove, check_pair, plans_of};
 use otp_bridge::BoxedSubsystem;
-use otp_inbox::InboxNaming;
 use otp_job::Body;
 use otp_reason::{Note, Reason};
 use otp_rules::CountsNow;
-use otp_run::RunNaming;
-use otp_signals::WordsNaming;
 use otp_tree::{
-    Client, CloseFault, Hand, PlanNaming, Session, System, SystemFault, Unclosed, with_system,
+    Client, CloseFault, Hand, Session, System, SystemFault, TreeNaming, Unclosed, with_system,
 };
 use std::alloc::Global;
 use std::process::Abort;
@@ -28,7 +25,7 @@ type Caller<N> = Client<N, Body<Worker, BoxedSubsystem>>;
 const STARTS: u64 = 4;
 
 // Serves all hands until the root is up and all starts were made, and stops the tree then. How the root ended.
-fn serve_alone<N: WordsNaming + InboxNaming + PlanNaming + RunNaming, R: Wait + Abort>(
+fn serve_alone<N: TreeNaming, R: Wait + Abort>(
     rt: &R,
     system: &Tree<N>,
     hands: &mut Vec<Serving<N>>,
@@ -54,7 +51,7 @@ fn serve_alone<N: WordsNaming + InboxNaming + PlanNaming + RunNaming, R: Wait + 
 }
 
 // The tree was up, each worker started once and the one that crashed once more, and it ended as it was asked to.
-fn lives_alone<N: WordsNaming + InboxNaming + PlanNaming + RunNaming, R: Wait + Abort>(
+fn lives_alone<N: TreeNaming, R: Wait + Abort>(
     rt: &R,
     system: &Tree<N>,
     hands: &mut Vec<Serving<N>>,
@@ -77,7 +74,7 @@ struct Closing {
 impl<R: Wait + Abort> Session<R, Worker, BoxedSubsystem> for Closing {
     type Output = Closed;
 
-    fn run<N: WordsNaming + InboxNaming + PlanNaming + RunNaming + Send + Sync>(
+    fn run<N: TreeNaming + Send + Sync>(
         self,
         rt: &R,
         system: System<N, Worker, BoxedSubsystem>,
@@ -96,10 +93,7 @@ impl<R: Wait + Abort> Session<R, Worker, BoxedSubsystem> for Closing {
 }
 
 // The last of these hands.
-fn last_of<N: WordsNaming + InboxNaming + PlanNaming + RunNaming, R: Abort>(
-    rt: &R,
-    hands: &mut Vec<Serving<N>>,
-) -> Serving<N> {
+fn last_of<N: TreeNaming, R: Abort>(rt: &R, hands: &mut Vec<Serving<N>>) -> Serving<N> {
     match hands.pop() {
         Some(hand) => hand,
         None => panic!(rt; "a hand"),
@@ -107,7 +101,7 @@ fn last_of<N: WordsNaming + InboxNaming + PlanNaming + RunNaming, R: Abort>(
 }
 
 // Closes the tree without one of its two hands: all that is there comes back.
-fn close_without<N: WordsNaming + InboxNaming + PlanNaming + RunNaming, R: Wait + Abort>(
+fn close_without<N: TreeNaming, R: Wait + Abort>(
     rt: &R,
     alloc: Global,
     system: Tree<N>,
@@ -123,7 +117,7 @@ fn close_without<N: WordsNaming + InboxNaming + PlanNaming + RunNaming, R: Wait 
 }
 
 // Closes the tree. Under a refused growth all comes back, and the tree can be closed again.
-fn close_with_all<N: WordsNaming + InboxNaming + PlanNaming + RunNaming, R: Wait + Abort>(
+fn close_with_all<N: TreeNaming, R: Wait + Abort>(
     rt: &R,
     alloc: Global,
     back: Unclosed<N, Worker, BoxedSubsystem>,
@@ -137,7 +131,7 @@ fn close_with_all<N: WordsNaming + InboxNaming + PlanNaming + RunNaming, R: Wait
 }
 
 // Closes the tree that came back.
-fn close_once<N: WordsNaming + InboxNaming + PlanNaming + RunNaming, R: Wait>(
+fn close_once<N: TreeNaming, R: Wait>(
     rt: &R,
     alloc: Global,
     back: Unclosed<N, Worker, BoxedSubsystem>,
@@ -194,7 +188,7 @@ fn may_follow(last: u64, now: CountsNow) -> bool {
 }
 
 // A hand reads these counts of a supervisor.
-fn reads<N: WordsNaming + InboxNaming + PlanNaming + RunNaming, R: Abort>(
+fn reads<N: TreeNaming, R: Abort>(
     rt: &R,
     system: &Tree<N>,
     hand: &mut Serving<N>,
@@ -206,7 +200,7 @@ fn reads<N: WordsNaming + InboxNaming + PlanNaming + RunNaming, R: Abort>(
 }
 
 // Serves by one hand, while another reads after each turn; and reads once all is up and `c` was restarted.
-fn count_along<N: WordsNaming + InboxNaming + PlanNaming + RunNaming, R: Wait + Abort>(
+fn count_along<N: TreeNaming, R: Wait + Abort>(
     rt: &R,
     system: &Tree<N>,
     serving: &mut Serving<N>,
@@ -225,7 +219,7 @@ fn count_along<N: WordsNaming + InboxNaming + PlanNaming + RunNaming, R: Wait + 
 }
 
 // Reads after each of many turns.
-fn count_turns<N: WordsNaming + InboxNaming + PlanNaming + RunNaming, R: Wait + Abort>(
+fn count_turns<N: TreeNaming, R: Wait + Abort>(
     rt: &R,
     system: &Tree<N>,
     serving: &mut Serving<N>,
@@ -251,7 +245,7 @@ struct Counting;
 impl<R: Wait + Abort> Session<R, Worker, BoxedSubsystem> for Counting {
     type Output = bool;
 
-    fn run<N: WordsNaming + InboxNaming + PlanNaming + RunNaming + Send + Sync>(
+    fn run<N: TreeNaming + Send + Sync>(
         self,
         rt: &R,
         system: System<N, Worker, BoxedSubsystem>,

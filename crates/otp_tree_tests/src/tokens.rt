@@ -1,16 +1,13 @@
 // What the threads of a tree carry is Send, and what they share is Sync, also as seen from a crate above.
 use otp_bridge::BoxedSubsystem;
-use otp_inbox::InboxNaming;
 use otp_job::{Body, BoxedJob};
-use otp_run::RunNaming;
-use otp_signals::WordsNaming;
-use otp_tree::{Client, Hand, PlanNaming, Report, System, TablePlan};
+use otp_tree::{Client, Hand, Report, System, TablePlan, TreeNaming};
 
 fn is_send<T: Send>(_: &T) {}
 
 fn is_sync<T: Sync>(_: &T) {}
 
-pub fn system_is_shared<N: WordsNaming + InboxNaming + PlanNaming + Send + Sync>(
+pub fn system_is_shared<N: TreeNaming + Send + Sync>(
     system: &System<N, BoxedJob, BoxedSubsystem>,
     client: &Client<N, Body<BoxedJob, BoxedSubsystem>>,
 ) {
@@ -19,9 +16,7 @@ pub fn system_is_shared<N: WordsNaming + InboxNaming + PlanNaming + Send + Sync>
     is_send(client);
 }
 
-pub fn hand_is_carried<N: WordsNaming + InboxNaming + PlanNaming + RunNaming + Send + Sync>(
-    hand: &Hand<N, BoxedJob, BoxedSubsystem>,
-) {
+pub fn hand_is_carried<N: TreeNaming + Send + Sync>(hand: &Hand<N, BoxedJob, BoxedSubsystem>) {
     is_send(hand);
 }
 

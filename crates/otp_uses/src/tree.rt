@@ -3,15 +3,12 @@ ghost use Rattle.std.specs.Prelude.{◌≡◌, true, length, IfOk};
 
 use otp_bridge::BoxedSubsystem;
 use otp_core::ReplyAnswer;
-use otp_inbox::InboxNaming;
 use otp_job::{Body, Job, Told, Turn};
 use otp_reason::{Name, Note, Reason, Started};
 use otp_rules::{Call, CountsNow, Reply};
-use otp_run::RunNaming;
-use otp_signals::WordsNaming;
 use otp_spec::{SpecFault, SupFlags};
 use otp_tree::{
-    Client, Hand, Millis, PlanNaming, Session, System, SystemFault, TableDraft, TablePlan,
+    Client, Hand, Millis, Session, System, SystemFault, TableDraft, TablePlan, TreeNaming,
     with_system,
 };
 use std::alloc::{AllocError, Global};
@@ -119,7 +116,7 @@ struct UpAndDown {
 impl<R: Wait> Session<R, Steady, BoxedSubsystem> for UpAndDown {
     type Output = Run;
 
-    fn run<N: WordsNaming + InboxNaming + PlanNaming + RunNaming + Send + Sync>(
+    fn run<N: TreeNaming + Send + Sync>(
         self,
         rt: &R,
         system: System<N, Steady, BoxedSubsystem>,
@@ -145,7 +142,7 @@ fn serve_all<N, R>(
     hands: &mut Vec<Hand<N, Steady, BoxedSubsystem>>,
 )
 where
-    N: WordsNaming + InboxNaming + PlanNaming + RunNaming,
+    N: TreeNaming,
     R: Wait,
 {
     for place in 0..hands.len() {
@@ -162,7 +159,7 @@ fn count_children<N, R>(
     client: &mut Client<N, Body<Steady, BoxedSubsystem>>,
 ) -> Option<CountsNow>
 where
-    N: WordsNaming + InboxNaming + PlanNaming + RunNaming,
+    N: TreeNaming,
     R: Wait,
 {
     let call = system.submit(rt, alloc, client, 0, Call::CountChildren, None);
@@ -182,7 +179,7 @@ fn next_note<N, R>(
     client: &mut Client<N, Body<Steady, BoxedSubsystem>>,
 ) -> Option<Note>
 where
-    N: WordsNaming + InboxNaming + PlanNaming + RunNaming,
+    N: TreeNaming,
     R: Wait,
 {
     for _ in 0..100 {
