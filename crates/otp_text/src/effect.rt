@@ -4,7 +4,7 @@ ghost use Rattle.std.specs.Prelude.{◌≡◌, ◌++◌, OnOk, OnErr, option_cop
 ghost use Rattle.otp_text.specs.Effects.{order_line, reply_line, effect_line};
 
 use crate::reply::write_reply;
-use crate::value::{write_child_name, write_number, write_process, write_reason};
+use crate::value::{write_byte, write_child_name, write_number, write_process, write_reason};
 use otp_reason::Name;
 use otp_rules::{Effect, Reply};
 use std::alloc::{AllocError, Global};
@@ -59,7 +59,7 @@ fn write_effect(effect: &Effect, reply: Option<&Reply>, out: &mut Vec<u8>) -> Re
         Effect::End(end) => {
             out.extend_from_slice(b"end ")?;
             write_reason(&end.reason, out)?;
-            out.extend_from_slice(b"\n")
+            write_byte(b'\n', out)
         }
     }
 }
@@ -76,9 +76,9 @@ fn write_order(
 {
     out.extend_from_slice(word)?;
     write_child_name(name, out)?;
-    out.extend_from_slice(b" ")?;
+    write_byte(b' ', out)?;
     write_process(number, out)?;
-    out.extend_from_slice(b"\n")
+    write_byte(b'\n', out)
 }
 
 /// Appends the line of a call's answer, and nothing without the answer.
@@ -91,9 +91,9 @@ fn write_answered(call: u64, reply: Option<&Reply>, out: &mut Vec<u8>) -> Result
         Some(reply) => {
             out.extend_from_slice(b"reply ")?;
             write_number(call, out)?;
-            out.extend_from_slice(b" ")?;
+            write_byte(b' ', out)?;
             write_reply(reply, out)?;
-            out.extend_from_slice(b"\n")
+            write_byte(b'\n', out)
         }
     }
 }
