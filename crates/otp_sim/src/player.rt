@@ -126,7 +126,7 @@ impl Player {
         let mut numbers = Counter {
             last: self.core.last_number(),
         };
-        self.core.step_with(self.reading, *kind, &mut numbers);
+        self.core.step_with(self.reading, kind, &mut numbers);
         let printed = print_orders(&self.core, &mut self.printer, out);
         self.core.clear_effects();
         printed

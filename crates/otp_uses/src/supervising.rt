@@ -77,7 +77,7 @@ fn happen(core: &mut Core, kind: Kind) -> io::Result<()> {
     if numbers.last == u64::MAX {
         return Err(no_room());
     }
-    core.step_with(0, kind, &mut numbers);
+    core.step_with(0, &kind, &mut numbers);
     Ok(())
 }
 
