@@ -6,7 +6,9 @@
 pub mod effect;
 pub mod laws;
 pub mod line;
+mod listed;
 mod reply;
+mod short;
 mod value;
 mod verb;
 mod word;

@@ -74,7 +74,7 @@ fn write_which(children: &[ChildLine], out: &mut Vec<u8>) -> Result<(), AllocErr
 }
 
 /// Appends each child of which_children.
-fn write_children(children: &[ChildLine], out: &mut Vec<u8>) -> Result<(), AllocError>
+pub(crate) fn write_children(children: &[ChildLine], out: &mut Vec<u8>) -> Result<(), AllocError>
     ensures { OnOk result (out.new.items ≡ out.old.items ++ flat_map child_text children.now) }
 {
     for child in children {
