@@ -652,25 +652,25 @@ impl Core {
     pub fn step_with<N: Numbers>(
         &mut self,
         reading: u64,
-        kind: Kind,
+        kind: &Kind,
         numbers: &mut N,
     ) -> Option<u64>
         requires prepared { IsTrue self.old.prepared }
         requires room { is_full self.old ≡ false }
         requires reading { reading ≤ MAX_READING }
-        requires number { IsTrue (needs_number (state_of self.old) reading kind) → N.can_give numbers.old }
+        requires number { IsTrue (needs_number (state_of self.old) reading kind.now) → N.can_give numbers.old }
         requires rises { (n : ℕ) (after : N) → N.gives numbers.old n after → All (λ m. m < n) (numbers_of self.old.history) }
-        ensures number { is_some result ≡ needs_number (state_of self.old) reading kind }
+        ensures number { is_some result ≡ needs_number (state_of self.old) reading kind.now }
         ensures drawn { MatchOption result (numbers.new ≡ numbers.old) (λ n. N.gives numbers.old n numbers.new) }
         ensures base { self.new.base ≡ self.old.base }
         ensures earlier { self.new.earlier ≡ self.old.earlier }
         ensures cut { self.new.cut ≡ self.old.cut }
-        ensures history { self.new.history ≡ self.old.history ++ record { reading = reading; number = result; kind = kind } ∷ [] }
-        ensures stored { stored_of self.new ≡ stored_of self.old ++ record { reading = reading; number = result; kind = kind } ∷ [] }
-        ensures effects { self.new.effects ≡ self.old.effects ++ (step (state_of self.old) (record { reading = reading; number = result; kind = kind })).orders }
+        ensures history { self.new.history ≡ self.old.history ++ record { reading = reading; number = result; kind = kind.now } ∷ [] }
+        ensures stored { stored_of self.new ≡ stored_of self.old ++ record { reading = reading; number = result; kind = kind.now } ∷ [] }
+        ensures effects { self.new.effects ≡ self.old.effects ++ (step (state_of self.old) (record { reading = reading; number = result; kind = kind.now })).orders }
         ensures prepared { self.new.prepared ≡ false }
         // The answers that its orders tell of are kept.
-        ensures answers { All (IsKept self.new) (step (state_of self.old) (record { reading = reading; number = result; kind = kind })).orders }
+        ensures answers { All (IsKept self.new) (step (state_of self.old) (record { reading = reading; number = result; kind = kind.now })).orders }
     {
         laws::answers_are_told();
         laws::step_keeps_plan();
@@ -678,10 +678,10 @@ impl Core {
         laws::step_keeps_stamped();
         laws::orders_are_appended();
         laws::cuts_agree();
-        let number = self.machine.step(reading, &kind, numbers);
+        let number = self.machine.step(reading, kind, numbers);
         self.last_number = number.unwrap_or(self.last_number);
         self.starts += one_if(number.is_some());
-        self.history.push(reading, number, &kind);
+        self.history.push(reading, number, kind);
         self.prepared = false;
         number
     }
@@ -706,7 +706,7 @@ impl Core {
         let mut given = Given {
             number: event.number,
         };
-        let _ = self.step_with(event.reading, event.kind, &mut given);
+        let _ = self.step_with(event.reading, &event.kind, &mut given);
     }
 }
 
