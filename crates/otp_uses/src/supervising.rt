@@ -62,23 +62,20 @@ fn drive(alloc: Global, core: &mut Core, first: Kind) -> io::Result<()> {
     Err(no_room())
 }
 
-/// One event: room for it first, by a checkpoint where the history is full, so that a supervisor lives as long as it is wanted;
-/// then its memory; and then the step, which draws a number where it starts a child. The clock stands still. An error where
-/// no number is left.
+/// One event, with its memory, and with room for it by a checkpoint where the history is full: so a supervisor lives as long as it
+/// is wanted. A start draws a number. The clock stands still. An error where no number is left.
 fn happen(core: &mut Core, kind: Kind) -> io::Result<()> {
     core.clear_effects();
-    if let Err(_) = core.make_room(MAX_EVENTS) {
-        return Err(no_room());
-    }
-    core.prepare()?;
     let mut numbers = Counter {
         last: core.last_number(),
     };
     if numbers.last == u64::MAX {
         return Err(no_room());
     }
-    core.step_with(0, kind, &mut numbers);
-    Ok(())
+    match core.happen(MAX_EVENTS, 0, kind, &mut numbers) {
+        Ok(_) => Ok(()),
+        Err(_) => Err(no_room()),
+    }
 }
 
 fn no_room() -> io::Error {

@@ -1,4 +1,4 @@
-//! A tree of jobs of one's own, whole: two workers under a supervisor, served by two threads.
+//! A tree of jobs of one's own, whole: two workers under a supervisor.
 ghost use Rattle.std.specs.Prelude.{◌≡◌, true, length, IfOk};
 
 use otp_bridge::BoxedSubsystem;
