@@ -1,4 +1,4 @@
-//! A child ends by itself with no work open, or its restart is tried again (`specs/Deaths` of the rules).
+//! A child has ended, with work open or without; or its restart is tried again (`specs/Deaths` of the rules).
 
 ghost use Rattle.std.specs.Prelude.{◌≡◌, ◌<◌, ◌≤◌, Some, length, slice_get};
 ghost use Rattle.std.specs.VecDeque.{deque_capacity};
