@@ -3,9 +3,8 @@
 use crate::caller::Caller;
 use crate::clock::Stopwatch;
 use crate::span::Span;
-use crate::watch::{Seen, Watch, happening_of};
-use otp_reason::Note;
-use otp_tree::MAX_HANDS;
+use crate::watch::{Seen, Watch};
+use otp_tree::{Happening, MAX_HANDS};
 use otp_wake::{Bells, Post, Stop};
 use std::alloc::{AllocError, Global};
 use std::sync::Arc;
@@ -186,17 +185,17 @@ impl<'a, C: Clock, W: Watch, J: Drop, S: Drop> Crew<'a, C, W, J, S> {
         }
     }
 
-    /// Notes that a letter with this note has gone to this supervisor, or to whoever opened the tree.
-    pub fn sent(&self, hand: usize, table: usize, note: Note) {
+    /// Notes that a letter has gone to this supervisor, or to whoever opened the tree, which tells this of a child.
+    pub fn sent(&self, hand: usize, table: usize, what: Happening) {
         self.wake_home(hand, table);
         if self.watch.is_told() {
             self.watch.saw(Seen {
                 at: self.clock.reading(),
                 table,
-                what: happening_of(note),
+                what,
             });
         }
-        if table.saturating_add(1) == self.places.len() && is_end(note) {
+        if table.saturating_add(1) == self.places.len() && is_end(what) {
             self.has_ended.store(1, Ordering::SeqCst);
             self.bells().ring_all();
         }
@@ -213,9 +212,9 @@ fn is_any_wanted<J: Drop, S: Drop>(callers: &[Caller<J, S>]) -> bool {
     false
 }
 
-/// Whether a note tells the end of a process.
-fn is_end(note: Note) -> bool {
-    !matches!(note, Note::Up(_))
+/// Whether a process has ended by what happened to it.
+fn is_end(what: Happening) -> bool {
+    !matches!(what, Happening::Started(_))
 }
 
 /// The hand with this number, counted from 1.

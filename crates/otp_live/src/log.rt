@@ -1,5 +1,7 @@
 //! A watch that writes lines.
 use crate::watch::{Happening, Seen, Watch};
+use otp_reason::Reason;
+use otp_spec::SupFlags;
 use otp_text::{write_number, write_process, write_reason};
 use std::alloc::{AllocError, Global};
 use std::io::Eprint;
@@ -12,7 +14,9 @@ use std::str;
 /// ```text
 /// 0 root: up #2
 /// 1250 pool/cache: exit #6 error:crash
+/// 1250 pool: gave up #4: more than 2 restarts within 60 s
 /// 1250 table 0: up #2
+/// 2000 stopped #1
 /// ```
 #[derive(Drop)]
 pub struct LogLines<'a, E> {
@@ -92,25 +96,51 @@ pub fn write_line_at(
 /// Appends what happened.
 fn write_happening(what: &Happening, out: &mut Vec<u8>) -> Result<(), AllocError> {
     match what {
-        Happening::Started(number) => {
-            out.extend_from_slice(b" up ")?;
-            write_process(*number, out)
+        Happening::Started(number) => write_process_after(b" up ", *number, out),
+        Happening::Ignored(number) => write_process_after(b" ignore ", *number, out),
+        Happening::Failed(number, reason) => write_why(b" fail ", *number, reason, out),
+        Happening::Exited(number, reason) => write_why(b" exit ", *number, reason, out),
+        Happening::Stopped(number) => write_process_after(b" stopped ", *number, out),
+        Happening::GaveUp(number, flags) => {
+            write_process_after(b" gave up ", *number, out)?;
+            write_bearing(flags, out)
         }
-        Happening::Ignored(number) => {
-            out.extend_from_slice(b" ignore ")?;
-            write_process(*number, out)
-        }
-        Happening::Failed(number, reason) => {
-            out.extend_from_slice(b" fail ")?;
-            write_process(*number, out)?;
-            out.extend_from_slice(b" ")?;
-            write_reason(reason, out)
-        }
-        Happening::Exited(number, reason) => {
-            out.extend_from_slice(b" exit ")?;
-            write_process(*number, out)?;
-            out.extend_from_slice(b" ")?;
-            write_reason(reason, out)
+        Happening::ShutDown(number, child) => {
+            write_process_after(b" shut down ", *number, out)?;
+            write_process_after(b": its significant child ", *child, out)?;
+            out.extend_from_slice(b" ended")
         }
     }
+}
+
+/// Appends these words, and a process.
+fn write_process_after(words: &[u8], number: u64, out: &mut Vec<u8>) -> Result<(), AllocError> {
+    out.extend_from_slice(words)?;
+    write_process(number, out)
+}
+
+/// Appends these words, a process, and a reason.
+fn write_why(
+    words: &[u8],
+    number: u64,
+    reason: &Reason,
+    out: &mut Vec<u8>,
+) -> Result<(), AllocError> {
+    write_process_after(words, number, out)?;
+    out.push(b' ')?;
+    write_reason(reason, out)
+}
+
+/// Appends how many restarts within how many seconds are borne, of which there was one more.
+fn write_bearing(flags: &SupFlags, out: &mut Vec<u8>) -> Result<(), AllocError> {
+    out.extend_from_slice(b": more than ")?;
+    write_number(flags.intensity, out)?;
+    let words: &[u8] = if flags.intensity == 1 {
+        b" restart within "
+    } else {
+        b" restarts within "
+    };
+    out.extend_from_slice(words)?;
+    write_number(flags.period, out)?;
+    out.extend_from_slice(b" s")
 }

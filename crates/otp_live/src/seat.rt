@@ -2,8 +2,7 @@
 
 use crate::crew::Crew;
 use crate::watch::Watch;
-use otp_reason::Note;
-use otp_tree::Listener;
+use otp_tree::{Happening, Listener};
 use std::sync::atomic::{AtomicU64, Ordering};
 use std::time::Clock;
 
@@ -33,8 +32,8 @@ impl<'a, C, W, J: Drop, S: Drop> Seat<'a, C, W, J, S> {
 }
 
 impl<C: Clock, W: Watch, J: Drop, S: Drop> Listener for Seat<'_, C, W, J, S> {
-    fn sent(&self, table: usize, note: Note) {
-        self.crew.sent(self.hand, table, note);
+    fn sent(&self, table: usize, what: Happening) {
+        self.crew.sent(self.hand, table, what);
     }
 
     fn served(&self, table: usize) {

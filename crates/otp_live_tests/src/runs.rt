@@ -122,7 +122,21 @@ fn a_tree_restarts_until_it_is_stopped(rt: HostRuntime) {
 struct Counting {
     started: AtomicU64,
     exited: AtomicU64,
+    stopped: AtomicU64,
+    gave_up: AtomicU64,
     of_root: AtomicU64,
+}
+
+impl Counting {
+    fn new() -> Self {
+        Counting {
+            started: AtomicU64::new(0),
+            exited: AtomicU64::new(0),
+            stopped: AtomicU64::new(0),
+            gave_up: AtomicU64::new(0),
+            of_root: AtomicU64::new(0),
+        }
+    }
 }
 
 impl Watch for Counting {
@@ -130,7 +144,11 @@ impl Watch for Counting {
         match seen.what {
             Happening::Started(_) => self.started.fetch_add(1, Ordering::SeqCst),
             Happening::Exited(..) => self.exited.fetch_add(1, Ordering::SeqCst),
-            Happening::Ignored(_) | Happening::Failed(..) => 0,
+            Happening::Stopped(_) => self.stopped.fetch_add(1, Ordering::SeqCst),
+            Happening::GaveUp(_, flags) => self
+                .gave_up
+                .fetch_add(flags.intensity, Ordering::SeqCst),
+            Happening::Ignored(_) | Happening::Failed(..) | Happening::ShutDown(..) => 0,
         };
         if seen.table == 2 {
             self.of_root.fetch_add(1, Ordering::SeqCst);
@@ -142,19 +160,31 @@ impl Watch for Counting {
 #[test]
 fn a_watch_is_told(rt: HostRuntime) {
     let shared = Shared::new(&rt, rt.alloc());
-    let counting = Counting {
-        started: AtomicU64::new(0),
-        exited: AtomicU64::new(0),
-        of_root: AtomicU64::new(0),
-    };
+    let counting = Counting::new();
     let kinds = [Kind::Steady, Kind::Stops(4)];
     let plans = tree(&rt, rt.alloc(), &kinds, &kinds, &shared, flags(1));
     let seen = run_watched(&rt, rt.alloc(), plans, 2, &shared.stop, &counting);
     drop(shared);
     same(&rt, "the processes that are left", seen.live, 0);
     is_told(&rt, "the starts", &counting.started, 6);
-    is_told(&rt, "the ends", &counting.exited, 6);
+    is_told(&rt, "the ends of jobs", &counting.exited, 4);
+    is_told(&rt, "the stops of supervisors", &counting.stopped, 2);
     is_told(&rt, "what was told of the root", &counting.of_root, 2);
+}
+
+// Where a supervisor gives up its flags are told: of one below the root that is started again twice, and of the root.
+#[test]
+fn a_watch_is_told_who_gave_up(rt: HostRuntime) {
+    let shared = Shared::new(&rt, rt.alloc());
+    let counting = Counting::new();
+    let below = [Kind::Crashes(u64::MAX)];
+    let plans = tree(&rt, rt.alloc(), &[], &below, &shared, flags(2));
+    let seen = run_watched(&rt, rt.alloc(), plans, 2, &shared.stop, &counting);
+    drop(shared);
+    same(&rt, "the processes that are left", seen.live, 0);
+    is_told(&rt, "the stops of supervisors", &counting.stopped, 0);
+    is_told(&rt, "what was borne by the four", &counting.gave_up, 8);
+    is_told(&rt, "the crashes", &counting.exited, 9);
 }
 
 fn is_told(rt: &impl Abort, what: &str, told: &AtomicU64, wanted: u64) {

@@ -1,6 +1,6 @@
 //! Who is told what a hand does.
 
-use otp_reason::Note;
+use crate::happening::Happening;
 
 /// What is told of the turns of a hand while it makes them, in the hand's own thread and with no lock held. No method needs to be
 /// written: each does nothing by default.
@@ -8,9 +8,9 @@ use otp_reason::Note;
 /// Whoever lets hands sleep wakes one by it: a supervisor that waits in a hand has its next turn in that hand alone, and so has a
 /// job that waits.
 pub trait Listener {
-    /// A letter with this note has gone to the supervisor of this number; or to whoever opened the tree, who has the number behind
-    /// the last.
-    fn sent(&self, _table: usize, _note: Note) {}
+    /// A letter has gone to the supervisor of this number, or to whoever opened the tree, who has the number behind the last: it tells
+    /// that this happened to a child of its.
+    fn sent(&self, _table: usize, _what: Happening) {}
 
     /// The supervisor of this number had a turn in which it did something: it may have started processes, and have told its
     /// children something.

@@ -5,6 +5,7 @@ ghost use Rattle.otp_tree.specs.Servings.{SentOrKept};
 ghost use Rattle.otp_hand.specs.Standings.{standing_of};
 
 use crate::clock::Millis;
+use crate::happening::happening_of;
 use crate::listener::{Listener, Nobody};
 use crate::system::System;
 use otp_bridge::Subsystem;
@@ -173,10 +174,11 @@ impl<N: WordsNaming + InboxNaming + PlanNaming, J: Job, S: Subsystem> System<N, 
             keep_unsent(&mut hand.runner.unsent, table, letter, note);
             return false;
         }
+        let what = happening_of(note, letter.end());
         match hand.senders.send(rt, inbox, letter) {
             Ok(()) => {
                 hand.runner.resting.call(table);
-                listener.sent(table, note);
+                listener.sent(table, what);
                 true
             }
             Err(letter) => {
