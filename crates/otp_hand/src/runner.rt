@@ -13,7 +13,7 @@ use crate::places::put_into;
 use crate::resting::{Rested, Resting};
 use crate::waiting::Waiting;
 use otp_bridge::Subsystem;
-use otp_job::{After, Body, EndNote, Job, Process, Spent, TableNo, one_turn_at};
+use otp_job::{After, Body, EndNote, Job, Process, Spent, TableNo, Ticket, one_turn_at};
 use otp_reason::Note;
 use otp_rules::SupEnd;
 use otp_run::{RunNaming, SHARE_LIMIT, Scheduler};
@@ -23,10 +23,10 @@ use otp_tally::Tally;
 use std::alloc::Global;
 use std::marker::Model;
 
-/// A letter that was not sent yet, the number of the supervisor to which it goes, and the note that it brings.
+/// A letter that was not sent yet, of the process with this ticket, to whose supervisor it goes, and the note that it brings.
 #[derive(Drop)]
 pub struct Unsent<J: Drop, S: Drop> {
-    pub table: usize,
+    pub ticket: Ticket,
     pub letter: Letter<Body<J, S>>,
     pub note: Note,
 }
@@ -76,7 +76,7 @@ impl<N: WordsNaming + RunNaming, J: Drop, S: Drop> Port<Body<J, S>> for Runner<N
     ghost beside = { λ r. beside_of r };
 
     fn put(&mut self, process: NewProcess<Body<J, S>>) -> Result<(), NewProcess<Body<J, S>>>
-        ensures took { OnOk result (map launched_of self.new.scheduler.own.puts ≡ map launched_of self.old.scheduler.own.puts ++ launched process.number process.slot (is_some process.body) ∷ []) }
+        ensures took { OnOk result (map launched_of self.new.scheduler.own.puts ≡ map launched_of self.old.scheduler.own.puts ++ launched process.number process.slot process.id process.again (is_some process.body) ∷ []) }
         ensures kept { OnErr result (map launched_of self.new.scheduler.own.puts ≡ map launched_of self.old.scheduler.own.puts) }
         ensures refused { OnErr result (self.old.refusals < self.new.refusals) }
         ensures counted { OnOk result (self.new.refusals ≡ self.old.refusals) }
@@ -84,19 +84,34 @@ impl<N: WordsNaming + RunNaming, J: Drop, S: Drop> Port<Body<J, S>> for Runner<N
         ensures notes { notes_by self.new ≡ notes_by self.old }
         ensures beside { beside_of self.new ≡ beside_of self.old }
         // The process belongs to the supervisor whose turn it is.
-        ensures table { OnOk result (self.new.scheduler.own.puts ≡ self.old.scheduler.own.puts ++ record { number = process.number; slot = process.slot; table = table_nested self.old.turning } ∷ []) }
+        ensures table { OnOk result (self.new.scheduler.own.puts ≡ self.old.scheduler.own.puts ++ record { number = process.number; slot = process.slot; table = table_nested self.old.turning; id = process.id; again = process.again } ∷ []) }
     {
-        let NewProcess { number, slot, body } = process;
+        let NewProcess {
+            number,
+            slot,
+            id,
+            again,
+            body,
+        } = process;
         let Some(body) = body else {
             self.refusals.raise();
             return Err(NewProcess {
                 number,
                 slot,
+                id,
+                again,
                 body: None,
             });
         };
         let table = nested_in(&self.turning);
-        let body = match Process::new(self.alloc, number, slot, table, body) {
+        let ticket = Ticket {
+            number,
+            slot,
+            table,
+            id,
+            again,
+        };
+        let body = match Process::of(self.alloc, ticket, body) {
             Ok(process) => match self.scheduler.put(process) {
                 Ok(()) => {
                     self.around.gained();
@@ -107,7 +122,13 @@ impl<N: WordsNaming + RunNaming, J: Drop, S: Drop> Port<Body<J, S>> for Runner<N
             Err(body) => Some(body),
         };
         self.refusals.raise();
-        Err(NewProcess { number, slot, body })
+        Err(NewProcess {
+            number,
+            slot,
+            id,
+            again,
+            body,
+        })
     }
 
     fn send(&mut self, note: Note, end: Option<&SupEnd>) -> Result<(), Note>
@@ -169,7 +190,7 @@ impl<N: WordsNaming + RunNaming, J: Drop, S: Drop> Runner<N, J, S> {
         requires whole { is_some (option_copied end) ≡ is_end_note note }
         ensures item { IfSome result (λ u. u.letter.item ≡ item.Note note) }
         // It goes to the supervisor to which the process belongs.
-        ensures table { IfSome result (λ u. u.table ≡ table_above self.old.turning) }
+        ensures table { IfSome result (λ u. u.ticket.table ≡ table_above self.old.turning) }
         ensures end { IfSome result (λ u. u.letter.end ≡ option_copied end.entry) }
         // Where it brings the supervisor's number home it has its end, and else it has none.
         ensures home { IfSome result (λ u. is_some u.letter.end ≡ is_some u.letter.body) }
@@ -181,7 +202,7 @@ impl<N: WordsNaming + RunNaming, J: Drop, S: Drop> Runner<N, J, S> {
         ensures ended { self.new.scheduler.ended ≡ self.old.scheduler.ended + ends_held result }
     {
         let process = self.turning.take()?;
-        let table = process.table();
+        let ticket = process.ticket();
         let Ok(end) = evidence_of(self.alloc, note, end) else {
             put_into(&mut self.turning, Some(process));
             return None;
@@ -190,7 +211,7 @@ impl<N: WordsNaming + RunNaming, J: Drop, S: Drop> Runner<N, J, S> {
             put_into(&mut self.turning, Some(process));
             let letter = Letter::with_end(note, None, end);
             return Some(Unsent {
-                table,
+                ticket,
                 letter,
                 note,
             });
@@ -204,7 +225,7 @@ impl<N: WordsNaming + RunNaming, J: Drop, S: Drop> Runner<N, J, S> {
                 self.scheduler.finish(remains);
                 let letter = Letter::with_end(note, Some(Body::Sup(number)), end);
                 let unsent = Unsent {
-                    table,
+                    ticket,
                     letter,
                     note,
                 };
@@ -485,7 +506,7 @@ impl<N: WordsNaming + RunNaming, J: Job, S: Subsystem> Runner<N, J, S> {
             put_into(&mut self.turning, Some(process));
             return;
         }
-        let table = process.ticket().table;
+        let ticket = process.ticket();
         self.around.take(process.slot());
         let after = one_turn_at(process, told, &self.around.site());
         match after {
@@ -499,7 +520,7 @@ impl<N: WordsNaming + RunNaming, J: Job, S: Subsystem> Runner<N, J, S> {
                 put_into(&mut self.turning, Some(process));
                 let letter = started(note);
                 let unsent = Unsent {
-                    table,
+                    ticket,
                     letter,
                     note,
                 };
@@ -510,7 +531,7 @@ impl<N: WordsNaming + RunNaming, J: Job, S: Subsystem> Runner<N, J, S> {
                 let note = end.note;
                 let letter = ended(end);
                 let unsent = Unsent {
-                    table,
+                    ticket,
                     letter,
                     note,
                 };

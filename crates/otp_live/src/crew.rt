@@ -4,6 +4,7 @@ use crate::caller::Caller;
 use crate::clock::Stopwatch;
 use crate::span::Span;
 use crate::watch::{Seen, Watch};
+use otp_job::Ticket;
 use otp_tree::{Happening, MAX_HANDS};
 use otp_wake::{Bells, Post, Stop};
 use std::alloc::{AllocError, Global};
@@ -185,13 +186,15 @@ impl<'a, C: Clock, W: Watch, J: Drop, S: Drop> Crew<'a, C, W, J, S> {
         }
     }
 
-    /// Notes that a letter has gone to this supervisor, or to whoever opened the tree, which tells this of a child.
-    pub fn sent(&self, hand: usize, table: usize, what: Happening) {
+    /// Notes that a letter has gone, which tells that this happened to the process with this ticket.
+    pub fn sent(&self, hand: usize, ticket: &Ticket, what: Happening) {
+        let table = ticket.table;
         self.wake_home(hand, table);
         if self.watch.is_told() {
             self.watch.saw(Seen {
                 at: self.clock.reading(),
                 table,
+                id: ticket.id,
                 what,
             });
         }
@@ -214,7 +217,7 @@ fn is_any_wanted<J: Drop, S: Drop>(callers: &[Caller<J, S>]) -> bool {
 
 /// Whether a process has ended by what happened to it.
 fn is_end(what: Happening) -> bool {
-    !matches!(what, Happening::Started(_))
+    !matches!(what, Happening::Started(_) | Happening::Restarted(_))
 }
 
 /// The hand with this number, counted from 1.

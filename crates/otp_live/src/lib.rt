@@ -12,7 +12,7 @@
 //! [`run_for`] runs it for a time: then the stop is raised, and where the tree hasn't ended some time after that, the hands leave it
 //! ([`Span`]). The report says what is left.
 //!
-//! A [`Watch`] is told what happens: which processes started and ended, and why, and when. It is told by the thread in which it
+//! A [`Watch`] is told what happens: which processes started, started again and ended, and why, and when. It is told by the thread in which it
 //! happened, with no lock held.
 //!
 //! Any thread calls the supervisors of a tree that runs by a [`Caller`], as OTP's `supervisor:restart_child` and the others do: a

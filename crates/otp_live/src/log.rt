@@ -2,21 +2,21 @@
 use crate::watch::{Happening, Seen, Watch};
 use otp_reason::Reason;
 use otp_spec::SupFlags;
-use otp_text::{write_number, write_process, write_reason};
+use otp_text::{write_child_name, write_number, write_process, write_reason};
 use std::alloc::{AllocError, Global};
 use std::io::Eprint;
 use std::str;
 
-/// Writes a line on standard error for each thing that happens, as soon as it does: the time in milliseconds, whose child it is, and
-/// what happened to which process. A supervisor is named by its path where that is known, else by its number. A line that memory is
-/// refused for, or that can't be written, is left out.
+/// Writes a line on standard error for each thing that happens, as soon as it does: the time in milliseconds, the child's path, and
+/// what happened to which process. Where the path of its supervisor isn't known that is named by its number. A child without an id is
+/// `-`. A line that memory is refused for, or that can't be written, is left out.
 ///
 /// ```text
-/// 0 root: up #2
-/// 1250 pool/cache: exit #6 error:crash
-/// 1250 pool: gave up #4: more than 2 restarts within 60 s
-/// 1250 table 0: up #2
-/// 2000 stopped #1
+/// 0 pool/cache: up #4
+/// 1250 pool/cache: exit #4 error:crash
+/// 1250 pool: gave up #3: more than 2 restarts within 60 s
+/// 1250 table 1 cache: up #6
+/// 2000 root: stopped #1
 /// ```
 #[derive(Drop)]
 pub struct LogLines<'a, E> {
@@ -70,24 +70,31 @@ pub fn write_line(seen: &Seen, out: &mut Vec<u8>) -> Result<(), AllocError> {
     write_number(seen.at, out)?;
     out.extend_from_slice(b" table ")?;
     write_number(seen.table as u64, out)?;
+    out.push(b' ')?;
+    write_child_name(&seen.id, out)?;
     out.push(b':')?;
     write_happening(&seen.what, out)?;
     out.push(b'\n')?;
     Ok(())
 }
 
-/// Appends the line for it, with the path of the supervisor; with none where it is the root itself.
+/// Appends the line for it, with what stands in front of the ids of its supervisor's children; nothing stands there of the root, which
+/// has no supervisor.
 pub fn write_line_at(
     path: Option<&[u8]>,
     seen: &Seen,
     out: &mut Vec<u8>,
 ) -> Result<(), AllocError> {
     write_number(seen.at, out)?;
-    if let Some(path) = path {
-        out.push(b' ')?;
-        out.extend_from_slice(path)?;
-        out.push(b':')?;
+    out.push(b' ')?;
+    match path {
+        Some(path) => {
+            out.extend_from_slice(path)?;
+            write_child_name(&seen.id, out)?;
+        }
+        None => out.extend_from_slice(b"root")?,
     }
+    out.push(b':')?;
     write_happening(&seen.what, out)?;
     out.push(b'\n')?;
     Ok(())
@@ -97,6 +104,7 @@ pub fn write_line_at(
 fn write_happening(what: &Happening, out: &mut Vec<u8>) -> Result<(), AllocError> {
     match what {
         Happening::Started(number) => write_process_after(b" up ", *number, out),
+        Happening::Restarted(number) => write_process_after(b" restarted ", *number, out),
         Happening::Ignored(number) => write_process_after(b" ignore ", *number, out),
         Happening::Failed(number, reason) => write_why(b" fail ", *number, reason, out),
         Happening::Exited(number, reason) => write_why(b" exit ", *number, reason, out),

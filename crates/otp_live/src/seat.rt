@@ -2,6 +2,7 @@
 
 use crate::crew::Crew;
 use crate::watch::Watch;
+use otp_job::Ticket;
 use otp_tree::{Happening, Listener};
 use std::sync::atomic::{AtomicU64, Ordering};
 use std::time::Clock;
@@ -32,8 +33,8 @@ impl<'a, C, W, J: Drop, S: Drop> Seat<'a, C, W, J, S> {
 }
 
 impl<C: Clock, W: Watch, J: Drop, S: Drop> Listener for Seat<'_, C, W, J, S> {
-    fn sent(&self, table: usize, what: Happening) {
-        self.crew.sent(self.hand, table, what);
+    fn sent(&self, ticket: &Ticket, what: Happening) {
+        self.crew.sent(self.hand, ticket, what);
     }
 
     fn served(&self, table: usize) {

@@ -1,8 +1,9 @@
 //! Who is told what happens in a tree.
 
+use otp_reason::Name;
 pub use otp_tree::Happening;
 
-/// What happened, when, and below whom.
+/// What happened, when, and to which child of whom.
 #[derive(Clone, Copy, Debug, PartialEq, Eq)]
 pub struct Seen {
     /// Milliseconds since the run began.
@@ -10,6 +11,8 @@ pub struct Seen {
     /// The number of the supervisor whose child it is, in the order of the plans, the root being 0. How many supervisors the tree has,
     /// where it is the root itself.
     pub table: usize,
+    /// The id of the child. A dynamic one has none, nor has the root.
+    pub id: Option<Name>,
     pub what: Happening,
 }
 
@@ -22,8 +25,9 @@ pub trait Watch {
     /// Told of each thing that happens. By default nothing is done.
     fn saw(&self, _seen: Seen) {}
 
-    /// The same, by somebody who knows the path of the supervisor: `root`, or the ids from the root's child on, as `pool/cache`.
-    /// `None` where it is the root itself. By default `saw` is told.
+    /// The same, by somebody who knows the path of the supervisor, which stands in front of the child's id: nothing of the root, else
+    /// the ids from the root's child on, each with a `/` behind it, as `pool/`. `None` where it is the root itself. By default `saw`
+    /// is told.
     fn saw_at(&self, _path: Option<&[u8]>, seen: Seen) {
         self.saw(seen);
     }

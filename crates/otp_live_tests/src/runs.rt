@@ -121,6 +121,8 @@ fn a_tree_restarts_until_it_is_stopped(rt: HostRuntime) {
 #[derive(Drop)]
 struct Counting {
     started: AtomicU64,
+    restarted: AtomicU64,
+    named: AtomicU64,
     exited: AtomicU64,
     stopped: AtomicU64,
     gave_up: AtomicU64,
@@ -131,6 +133,8 @@ impl Counting {
     fn new() -> Self {
         Counting {
             started: AtomicU64::new(0),
+            restarted: AtomicU64::new(0),
+            named: AtomicU64::new(0),
             exited: AtomicU64::new(0),
             stopped: AtomicU64::new(0),
             gave_up: AtomicU64::new(0),
@@ -143,6 +147,7 @@ impl Watch for Counting {
     fn saw(&self, seen: Seen) {
         match seen.what {
             Happening::Started(_) => self.started.fetch_add(1, Ordering::SeqCst),
+            Happening::Restarted(_) => self.restarted.fetch_add(1, Ordering::SeqCst),
             Happening::Exited(..) => self.exited.fetch_add(1, Ordering::SeqCst),
             Happening::Stopped(_) => self.stopped.fetch_add(1, Ordering::SeqCst),
             Happening::GaveUp(_, flags) => self
@@ -152,6 +157,9 @@ impl Watch for Counting {
         };
         if seen.table == 2 {
             self.of_root.fetch_add(1, Ordering::SeqCst);
+        }
+        if seen.id.is_some() {
+            self.named.fetch_add(1, Ordering::SeqCst);
         }
     }
 }
@@ -169,7 +177,9 @@ fn a_watch_is_told(rt: HostRuntime) {
     is_told(&rt, "the starts", &counting.started, 6);
     is_told(&rt, "the ends of jobs", &counting.exited, 4);
     is_told(&rt, "the stops of supervisors", &counting.stopped, 2);
+    is_told(&rt, "the restarts", &counting.restarted, 0);
     is_told(&rt, "what was told of the root", &counting.of_root, 2);
+    is_told(&rt, "what was told with an id", &counting.named, 10);
 }
 
 // Where a supervisor gives up its flags are told: of one below the root that is started again twice, and of the root.
@@ -185,6 +195,9 @@ fn a_watch_is_told_who_gave_up(rt: HostRuntime) {
     is_told(&rt, "the stops of supervisors", &counting.stopped, 0);
     is_told(&rt, "what was borne by the four", &counting.gave_up, 8);
     is_told(&rt, "the crashes", &counting.exited, 9);
+    // At each opening of the one below its child starts, and so does the root; the rest are restarts.
+    is_told(&rt, "the starts", &counting.started, 5);
+    is_told(&rt, "the restarts", &counting.restarted, 8);
 }
 
 fn is_told(rt: &impl Abort, what: &str, told: &AtomicU64, wanted: u64) {

@@ -86,7 +86,7 @@ impl<N: WordsNaming> Office<N> {
         ensures { result ≡ slot_to_start self.now }
     {
         match self.first() {
-            Some(Sending::Start(number)) => Some(self.row_slot(number)),
+            Some(Sending::Start(_, number)) => Some(self.row_slot(number)),
             _ => None,
         }
     }
@@ -111,9 +111,17 @@ impl<N: WordsNaming> Office<N> {
             return (Flushed::Empty, body);
         };
         match how {
-            Sending::Start(number) => {
+            Sending::Start(id, number) => {
+                let again = self.core.starts_again();
                 let slot = self.post(words, number, Signal::None);
-                if let Err(back) = port.put(NewProcess { number, slot, body }) {
+                let process = NewProcess {
+                    number,
+                    slot,
+                    id,
+                    again,
+                    body,
+                };
+                if let Err(back) = port.put(process) {
                     return (Flushed::Refused, back.body);
                 }
                 self.advance();

@@ -1,5 +1,5 @@
 -- What a note says has happened. (supervisor, the keys intensity, period and auto_shutdown)
-use Rattle.std.specs.Prelude.{ℕ, Option, Some, None}
+use Rattle.std.specs.Prelude.{ℕ, Bool, true, false, Option, Some, None}
 use Rattle.otp_reason.specs.declared.note.Note.{Note}
 use Rattle.otp_reason.specs.declared.note.Note.TheVariants as note
 use Rattle.otp_reason.specs.declared.reason.Reason.{Reason}
@@ -7,7 +7,7 @@ use Rattle.otp_rules.specs.declared.ending.Cause.{Cause}
 use Rattle.otp_rules.specs.declared.ending.Cause.TheVariants as cause
 use Rattle.otp_rules.specs.declared.ending.SupEnd.{SupEnd}
 use Rattle.otp_tree.specs.declared.happening.Happening.{Happening}
-use Rattle.otp_tree.specs.declared.happening.Happening.TheVariants.{Started, Ignored, Failed, Exited, Stopped, GaveUp, ShutDown}
+use Rattle.otp_tree.specs.declared.happening.Happening.TheVariants.{Started, Restarted, Ignored, Failed, Exited, Stopped, GaveUp, ShutDown}
 
 -- the end of a supervisor, by what shows why: its parent asked, its restarts were too many, or a significant child had ended
 abbrev pub exited_by : ℕ → Reason → Cause → Happening
@@ -21,8 +21,13 @@ abbrev pub exited : ℕ → Reason → Option SupEnd → Happening
 exited number reason None = Exited number reason
 exited number reason (Some end) = exited_by number reason end.cause
 
-abbrev pub happening_of : Note → Option SupEnd → Happening
-happening_of (note.Up number) end = Started number
-happening_of (note.Ignored number) end = Ignored number
-happening_of (note.Failed number reason) end = Failed number reason
-happening_of (note.Exit number reason) end = exited number reason end
+-- the start of a process, whose child had one before or not
+abbrev pub started : ℕ → Bool → Happening
+started number false = Started number
+started number true = Restarted number
+
+abbrev pub happening_of : Note → Option SupEnd → Bool → Happening
+happening_of (note.Up number) end again = started number again
+happening_of (note.Ignored number) end again = Ignored number
+happening_of (note.Failed number reason) end again = Failed number reason
+happening_of (note.Exit number reason) end again = exited number reason end

@@ -11,6 +11,9 @@ use otp_spec::SupFlags;
 pub enum Happening {
     /// It started: of a supervisor, all its children have.
     Started(u64),
+    /// The same, by a restart, also that of another child, or by `restart_child`: its child had a process before. Where a supervisor
+    /// starts again, its own children start anew.
+    Restarted(u64),
     /// Its start answered `ignore`.
     Ignored(u64),
     /// Its start failed, for this reason.
@@ -25,11 +28,13 @@ pub enum Happening {
     ShutDown(u64, u64),
 }
 
-/// What a note says has happened, which came with this end where it is that of a supervisor.
-pub(crate) fn happening_of(note: Note, end: Option<&SupEnd>) -> Happening
-    ensures { result ≡ happening_of note (option_copied end.entry) }
+/// What a note says has happened, which came with this end where it is that of a supervisor, to the process of a child that had one
+/// before or not.
+pub(crate) fn happening_of(note: Note, end: Option<&SupEnd>, again: bool) -> Happening
+    ensures { result ≡ happening_of note (option_copied end.entry) again }
 {
     match note {
+        Note::Up(number) if again => Happening::Restarted(number),
         Note::Up(number) => Happening::Started(number),
         Note::Ignored(number) => Happening::Ignored(number),
         Note::Failed(number, reason) => Happening::Failed(number, reason),
