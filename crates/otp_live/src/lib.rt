@@ -49,6 +49,7 @@ pub use clock::Stopwatch;
 pub use live::{close_callers, run, run_for, run_with_callers};
 pub use log::{LogLines, write_line, write_line_at};
 pub use mailbox::Mailbox;
+pub use otp_tree::Happening;
 pub use otp_wake::{Stop, Waker};
 pub use span::Span;
-pub use watch::{Happening, Seen, Unwatched, Watch};
+pub use watch::{Seen, Unwatched, Watch};

@@ -1,8 +1,9 @@
 //! A watch that writes lines.
-use crate::watch::{Happening, Seen, Watch};
+use crate::watch::{Seen, Watch};
 use otp_reason::Reason;
 use otp_spec::SupFlags;
 use otp_text::{write_child_name, write_number, write_process, write_reason};
+use otp_tree::Happening;
 use std::alloc::{AllocError, Global};
 use std::io::Eprint;
 use std::str;

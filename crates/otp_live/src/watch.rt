@@ -1,7 +1,7 @@
 //! Who is told what happens in a tree.
 
 use otp_reason::Name;
-pub use otp_tree::Happening;
+use otp_tree::Happening;
 
 /// What happened, when, and to which child of whom.
 #[derive(Clone, Copy, Debug, PartialEq, Eq)]
