@@ -79,8 +79,7 @@ pub fn write_line(seen: &Seen, out: &mut Vec<u8>) -> Result<(), AllocError> {
     Ok(())
 }
 
-/// Appends the line for it, with what stands in front of the ids of its supervisor's children; nothing stands there of the root, which
-/// has no supervisor.
+/// Appends the line for it, with the path of the child below this supervisor; there is none where it is the root itself.
 pub fn write_line_at(
     path: Option<&[u8]>,
     seen: &Seen,
@@ -89,16 +88,22 @@ pub fn write_line_at(
     write_number(seen.at, out)?;
     out.push(b' ')?;
     match path {
-        Some(path) => {
-            out.extend_from_slice(path)?;
-            write_child_name(&seen.id, out)?;
-        }
+        Some(path) => write_path(path, seen, out)?,
         None => out.extend_from_slice(b"root")?,
     }
     out.push(b':')?;
     write_happening(&seen.what, out)?;
     out.push(b'\n')?;
     Ok(())
+}
+
+/// Appends the path of a child below this supervisor. That of a child of the root is its id alone.
+fn write_path(path: &[u8], seen: &Seen, out: &mut Vec<u8>) -> Result<(), AllocError> {
+    if seen.table != 0 {
+        out.extend_from_slice(path)?;
+        out.push(b'/')?;
+    }
+    write_child_name(&seen.id, out)
 }
 
 /// Appends what happened.

@@ -25,9 +25,8 @@ pub trait Watch {
     /// Told of each thing that happens. By default nothing is done.
     fn saw(&self, _seen: Seen) {}
 
-    /// The same, by somebody who knows the path of the supervisor, which stands in front of the child's id: nothing of the root, else
-    /// the ids from the root's child on, each with a `/` behind it, as `pool/`. `None` where it is the root itself. By default `saw`
-    /// is told.
+    /// The same, by somebody who knows the path of the supervisor: `root`, or the ids from the root's child on, as `pool/cache`.
+    /// `None` where it is the root itself. By default `saw` is told.
     fn saw_at(&self, _path: Option<&[u8]>, seen: Seen) {
         self.saw(seen);
     }

@@ -1,6 +1,7 @@
 //! Who is told what happens in a tree that is served.
 
 use otp_live::{Seen, Watch};
+use otp_outcome::supervisor_name;
 use otp_trial::Seat;
 
 /// Tells a watch the path of each supervisor.
@@ -14,7 +15,7 @@ pub(crate) struct AtPaths<'a, L> {
 impl<L: Watch> Watch for AtPaths<'_, L> {
     fn saw(&self, seen: Seen) {
         let path = match self.seats.get(seen.table) {
-            Some(seat) => Some(seat.path()),
+            Some(seat) => Some(supervisor_name(seat.path())),
             None => None,
         };
         self.watch.saw_at(path, seen);
