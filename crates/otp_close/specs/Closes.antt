@@ -126,7 +126,7 @@ pub record IsIntact {N J S : Type 0} (shared : SystemView) (hands : List (HandVi
   pub shared_is : k.shared ≡ shared
   -- each hand has its scheduler, its senders, its processes, its letter and its passes; of what its viewer saw nothing is said
   pub hands_are : k.hands.items ≡ hands
-  -- it has its numbers and posts, its senders, the root's number, and what it took of the root's notes
+  -- it has its numbers and posts, its senders, and what it took of the root's notes
   pub client_is : k.client ≡ client
 
 -- nothing was taken apart for this cause, and all comes back

@@ -248,7 +248,6 @@ fn report_of<N: WordsNaming + InboxNaming + PlanNaming, J: Drop, S: Drop, R: Wai
     let Client {
         owner,
         senders,
-        root: _,
         waiter,
         heard,
     } = client;

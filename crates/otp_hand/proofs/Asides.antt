@@ -1,6 +1,7 @@
 -- Lists with some in front. (own)
 use Rattle.std.proofs.Common.{◌≡◌, ℕ, suc, ◌+◌, ◌-◌, ◌<◌, List, [], ◌∷◌, ◌++◌, length, length-append, take, slice_index_or, slice_set, sym, subst, arith, ap, ◌∙◌}
 use Rattle.std.specs.List.{swap_remove}
+use Rattle.std.specs.Prelude.{Option, None, Some, MatchOption}
 use Rattle.otp_hand.specs.Waitings.{IsTaken}
 
 module _ {A : Type 0} where
@@ -28,7 +29,7 @@ module _ {A : Type 0} where
       ap (λ n. slice_index_or (x ∷ front ++ ys) n d) one ∙ index_behind front ys place d
 
   -- one of those behind was taken out
-  pub taken_behind : (front ys ys' old : List A) (x : A) (place : ℕ) → front ++ ys ≡ old → place < length ys → x ≡ slice_index_or ys place x → ys' ≡ swap_remove ys place x → length ys' + 1 ≡ length ys → IsTaken x old (front ++ ys')
+  taken_behind : (front ys ys' old : List A) (x : A) (place : ℕ) → front ++ ys ≡ old → place < length ys → x ≡ slice_index_or ys place x → ys' ≡ swap_remove ys place x → length ys' + 1 ≡ length ys → IsTaken x old (front ++ ys')
   taken_behind front ys ys' old x place was there is others fewer = record {
     place = length front + place;
     there = subst (λ l. length front + place < length l) was (omega (arith, length-append front ys, there));
@@ -36,3 +37,8 @@ module _ {A : Type 0} where
     others = ap (λ l. front ++ l) others ∙ sym (swapped_behind front ys place x there) ∙ ap (λ l. swap_remove l (length front + place) x) was;
     fewer = omega (arith, fewer, length-append front ys', length-append front ys, ap length was);
   }
+
+  -- one of those behind was taken out, or none
+  pub told_behind : (front ys ys' old : List A) (r : Option A) → front ++ ys ≡ old → MatchOption r (ys' ≡ ys) (λ x. IsTaken x ys ys') → MatchOption r (front ++ ys' ≡ old) (λ x. IsTaken x old (front ++ ys'))
+  told_behind front ys ys' old None was same = ap (λ l. front ++ l) same ∙ was
+  told_behind front ys ys' old (Some x) was t = taken_behind front ys ys' old x t.place was t.there t.is t.others t.fewer

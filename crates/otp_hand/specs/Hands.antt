@@ -74,8 +74,6 @@ module _ {J S : Type 0} where
 pub record ClientView : Type 0 where
   pub owner : Holding
   pub senders : List (SenderState Message)
-  -- the root's number, of the first client
-  pub root : Option ℕ
   -- what the first client takes the root's notes by
   pub waiter : Option (TakerState Message)
 

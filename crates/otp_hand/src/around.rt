@@ -1,26 +1,30 @@
 //! What a hand knows of what is around it.
+ghost use Rattle.std.specs.Prelude.{◌≡◌, ◌↔◌, ◌-◌, ◌≤◌, IsTrue, MatchOption};
+ghost use Rattle.otp_hand.specs.declared.around.TheConstants.{ENOUGH, THEFT_PAUSE};
+ghost use Rattle.otp_hand.specs.Arounds.{IsToComeBack, one_more, passed_after, stock_after};
 
 use otp_job::Site;
 use otp_wake::Post;
 use std::alloc::AllocError;
+use std::marker::Model;
 use std::sync::Arc;
 
 /// After a try at all other deques that gave nothing, so many looks into the hand's own come before the next. A hand with nothing
 /// to do that tried in each turn would take the one process that has something to do from hand to hand, and its memory with it.
-const THEFT_PAUSE: u32 = 256;
+pub const THEFT_PAUSE: u32 = 256;
 
 /// So many processes of a hand stand in its deque, where other hands find them. Those that want another turn stand aside meanwhile: so a
 /// new process, which goes into the deque, waits for a few turns and not for one of each.
-const ENOUGH: u32 = 4;
+pub const ENOUGH: u32 = 4;
 
 /// After so many turns one comes back into the deque, though that has enough: new processes don't keep the others from their turns.
-const PATIENCE: u32 = 8;
+pub const PATIENCE: u32 = 8;
 
-/// What a hand knows of what is around it: the time, its own deque and those of others, and how jobs are woken from outside.
+/// What a hand knows of what is around it: whom it has called, its own deque and those of others, and how jobs are woken from outside.
 #[derive(Drop)]
 pub struct Around {
-    /// The reading of the clock for this turn.
-    pub reading: u64,
+    /// The supervisor to which it has just sent a letter: the process of that has the hand's next turn, if it waits here.
+    pub called: Option<usize>,
     /// Where jobs that wait are woken. None where the tree is served by turns.
     pub post: Option<Arc<Post>>,
     // How many looks into its own deque come before it tries the others again.
@@ -31,11 +35,21 @@ pub struct Around {
     passed_by: u32,
 }
 
+impl Model for Around {
+    ghost use Rattle.otp_hand.specs.Arounds.{Deques};
+
+    ghost Value = { Deques };
+
+    ghost view = { λ a. record { stock = a.stock; passed_by = a.passed_by; pause = a.theft_pause } };
+}
+
 impl Around {
-    /// At no time, with an empty deque, and where no job can be woken.
-    pub fn new() -> Around {
+    /// With an empty deque, and where no job can be woken.
+    pub fn new() -> Around
+        ensures { result ≡ record { stock = 0; passed_by = 0; pause = 0 } }
+    {
         Around {
-            reading: 0,
+            called: None,
             post: None,
             theft_pause: 0,
             stock: 0,
@@ -44,17 +58,23 @@ impl Around {
     }
 
     /// How many processes its own deque has at most.
-    pub fn stock(&self) -> u32 {
+    pub fn stock(&self) -> u32
+        ensures { result ≡ self.now.stock }
+    {
         self.stock
     }
 
     /// Notes that a process was put into its own deque.
-    pub fn gained(&mut self) {
+    pub fn gained(&mut self)
+        ensures { self.new ≡ record self.old { stock = one_more self.old.stock } }
+    {
         self.stock = self.stock.saturating_add(1);
     }
 
     /// Notes whether its own deque gave a process.
-    pub fn tried_own(&mut self, has_found: bool) {
+    pub fn tried_own(&mut self, has_found: bool)
+        ensures { self.new ≡ record self.old { stock = stock_after has_found self.old.stock } }
+    {
         self.stock = if has_found {
             self.stock.saturating_sub(1)
         } else {
@@ -63,37 +83,48 @@ impl Around {
     }
 
     /// Whether its own deque has as many processes as are to stand there.
-    pub fn has_enough(&self) -> bool {
+    pub fn has_enough(&self) -> bool
+        ensures { IsTrue result ↔ ENOUGH ≤ self.now.stock }
+    {
         self.stock >= ENOUGH
     }
 
     /// Whether one of those that stand aside is to come back into the deque after this turn: there are few, or it is time.
-    pub fn is_to_come_back(&mut self) -> bool {
-        self.passed_by = self.passed_by.saturating_add(1);
-        if self.has_enough() && self.passed_by < PATIENCE {
-            return false;
-        }
-        self.passed_by = 0;
-        true
+    pub fn is_to_come_back(&mut self) -> bool
+        ensures value { IsTrue result ↔ IsToComeBack self.old }
+        ensures counted { self.new ≡ record self.old { passed_by = passed_after result self.old.passed_by } }
+    {
+        let turns = self.passed_by.saturating_add(1);
+        let is_time = self.stock < ENOUGH || PATIENCE <= turns;
+        self.passed_by = if is_time { 0 } else { turns };
+        is_time
     }
 
     /// Whether it is to try the other deques too.
-    pub fn tries_others(&self) -> bool {
+    pub fn tries_others(&self) -> bool
+        ensures { IsTrue result ↔ self.now.pause ≡ 0 }
+    {
         self.theft_pause == 0
     }
 
     /// Notes that it is to try them in its next search.
-    pub fn is_to_try_others(&mut self) {
+    pub fn is_to_try_others(&mut self)
+        ensures { self.new ≡ record self.old { pause = 0 } }
+    {
         self.theft_pause = 0;
     }
 
     /// Notes that they gave nothing, a moment ago.
-    pub fn tried_in_vain(&mut self) {
+    pub fn tried_in_vain(&mut self)
+        ensures { self.new ≡ record self.old { pause = THEFT_PAUSE } }
+    {
         self.theft_pause = THEFT_PAUSE;
     }
 
     /// Notes that it didn't try them in a search that gave nothing.
-    pub fn spared_others(&mut self) {
+    pub fn spared_others(&mut self)
+        ensures { self.new ≡ record self.old { pause = self.old.pause - 1 } }
+    {
         self.theft_pause = self.theft_pause.saturating_sub(1);
     }
 
@@ -107,10 +138,10 @@ impl Around {
         false
     }
 
-    /// Where the turns of processes are made.
-    pub fn site(&self) -> Site<'_> {
+    /// Where turns of processes are made, at this reading of the clock.
+    pub fn site(&self, reading: u64) -> Site<'_> {
         Site {
-            reading: self.reading,
+            reading,
             post: self.post.as_ref(),
         }
     }
@@ -139,14 +170,18 @@ impl Around {
     }
 
     /// Jobs are woken here from now on.
-    pub fn open_post(&mut self, post: &Arc<Post>) -> Result<(), AllocError> {
+    pub fn open_post(&mut self, post: &Arc<Post>) -> Result<(), AllocError>
+        ensures { self.new ≡ self.old }
+    {
         self.post = Some(Arc::try_clone(post)?);
         Ok(())
     }
 }
 
 /// Whether the reading of the clock has come to a deadline.
-pub fn is_due(due: Option<u64>, reading: u64) -> bool {
+pub fn is_due(due: Option<u64>, reading: u64) -> bool
+    ensures { IsTrue result ↔ MatchOption due ⊥ (λ d. d ≤ reading) }
+{
     match due {
         Some(due) => due <= reading,
         None => false,

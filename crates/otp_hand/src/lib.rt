@@ -3,8 +3,9 @@
 //!
 //! - `senders.rt`: a sender to each supervisor, of which each hand and each client has a list.
 //! - `client.rt`: numbers for calls, and the right to stop the root.
-//! - `hand.rt`: what one thread has; `runner.rt`: what it runs processes with. What waits in it: `waiting.rt` (jobs; those that
-//!   want a turn and stand aside: `aside.rt`) and `resting.rt` (supervisors); what it knows of the time and of other deques: `around.rt`.
+//! - `hand.rt`: what one thread has; `runner.rt`: what it runs processes with. What waits in it: `waiting.rt` (jobs, and those that
+//!   want a turn and stand aside; both are parked: `parked.rt`, `looks.rt`) and `resting.rt` (supervisors); what it knows of the
+//!   deques: `around.rt`.
 //! - `reading.rt`: counts of supervisors, read without their locks.
 //! - `shared.rt`: the signal words and the supervisors themselves.
 //!
@@ -13,11 +14,11 @@
 #![tactic(auto)]
 
 pub mod around;
-pub mod aside;
 pub mod client;
 pub mod ending;
 pub mod hand;
 pub mod looks;
+pub mod parked;
 pub mod places;
 pub mod reading;
 pub mod resting;
@@ -27,9 +28,9 @@ pub mod shared;
 pub mod waiting;
 
 pub use around::{Around, is_due};
-pub use client::Client;
+pub use client::{Client, ROOT_NUMBER, ROOT_SLOT};
 pub use hand::Hand;
-pub use resting::{Rested, Resting};
+pub use resting::{Rested, Resting, find_called};
 pub use runner::{Runner, Unsent};
 pub use senders::Senders;
 pub use shared::Shared;

@@ -1,11 +1,11 @@
-//! Which processes are looked at, whether they were told something.
+//! Which of the processes that are parked are looked at, whether they were told something.
 ghost use Rattle.std.specs.Prelude.{◌<◌, ◌≤◌, length, IfSome};
 
 use crate::around::Around;
 use otp_job::Process;
 use otp_signals::{Viewer, Words, WordsNaming};
 
-/// How many of those that began to wait last are looked at in a turn: a supervisor that stops its children begins with the
+/// How many of those that were parked last are looked at in a turn: a supervisor that stops its children begins with the
 /// one that was started last.
 const NEWEST: usize = 8;
 
@@ -15,7 +15,7 @@ const OTHERS: usize = 24;
 /// The next look is at all of them.
 const ALL: usize = usize::MAX;
 
-/// Which of some processes are looked at in the next turn.
+/// Which of some processes that are parked are looked at in the next turn.
 #[derive(Drop)]
 pub struct Looks {
     // The place of the first that is looked at, of those that are not the newest.
@@ -52,11 +52,11 @@ impl Looks {
         words: &Words<N>,
         viewer: &mut Viewer<N>,
         around: &Around,
-        waiting: &[Process<J, S>],
+        parked: &[Process<J, S>],
     ) -> Option<usize>
-        ensures { IfSome result (λ place. place < length waiting.now) }
+        ensures { IfSome result (λ place. place < length parked.now) }
     {
-        let len = waiting.len();
+        let len = parked.len();
         let (newest, many) = match self.alert {
             0 => (len, self.few),
             ALL => (0, 0),
@@ -66,9 +66,9 @@ impl Looks {
         let from = self.next.min(newest);
         let to = from.saturating_add(many).min(newest);
         self.next = if to < newest { to } else { 0 };
-        match find_told_last(words, viewer, around, waiting, newest, len) {
+        match find_told(words, viewer, around, parked, newest, len) {
             Some(place) => Some(place),
-            None => find_told(words, viewer, around, waiting, from, to),
+            None => find_told(words, viewer, around, parked, from, to),
         }
     }
 }
@@ -82,47 +82,27 @@ fn fewer(alert: usize) -> usize {
 }
 
 /// The last of the processes at these places that was told something.
-fn find_told_last<N: WordsNaming, J: Drop, S: Drop>(
-    words: &Words<N>,
-    viewer: &mut Viewer<N>,
-    around: &Around,
-    waiting: &[Process<J, S>],
-    from: usize,
-    to: usize,
-) -> Option<usize>
-    requires { to ≤ length waiting.now }
-    ensures { IfSome result (λ place. place < length waiting.now) }
-{
-    for back in from..to {
-        let place = to - 1 - (back - from);
-        if is_told(words, viewer, around, &waiting[place]) {
-            return Some(place);
-        }
-    }
-    None
-}
-
-/// The first of the processes at these places that was told something.
 fn find_told<N: WordsNaming, J: Drop, S: Drop>(
     words: &Words<N>,
     viewer: &mut Viewer<N>,
     around: &Around,
-    waiting: &[Process<J, S>],
+    parked: &[Process<J, S>],
     from: usize,
     to: usize,
 ) -> Option<usize>
-    requires { to ≤ length waiting.now }
-    ensures { IfSome result (λ place. place < length waiting.now) }
+    requires { to ≤ length parked.now }
+    ensures { IfSome result (λ place. place < length parked.now) }
 {
-    for place in from..to {
-        if is_told(words, viewer, around, &waiting[place]) {
+    for back in from..to {
+        let place = to - 1 - (back - from);
+        if is_told(words, viewer, around, &parked[place]) {
             return Some(place);
         }
     }
     None
 }
 
-/// Whether a process that waits was told something, or its job was woken.
+/// Whether a process was told something, or its job was woken.
 fn is_told<N: WordsNaming, J: Drop, S: Drop>(
     words: &Words<N>,
     viewer: &mut Viewer<N>,

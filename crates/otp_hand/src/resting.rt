@@ -27,8 +27,6 @@ pub struct Resting<J: Drop, S: Drop> {
     list: Vec<Rested<J, S>>,
     // The place of the first that is looked at in the next turn.
     next: usize,
-    // The supervisor to which the hand has just sent a letter.
-    called: Option<usize>,
 }
 
 impl<J: Drop, S: Drop> Model for Resting<J, S> {
@@ -48,7 +46,6 @@ impl<J: Drop, S: Drop> Resting<J, S> {
         Resting {
             list: Vec::new(alloc),
             next: 0,
-            called: None,
         }
     }
 
@@ -92,23 +89,6 @@ impl<J: Drop, S: Drop> Resting<J, S> {
         self.list.swap_remove(place)
     }
 
-    /// Notes that a letter has just gone to the supervisor with this number: its process has the hand's next turn, if it
-    /// waits here.
-    pub fn call(&mut self, table: usize)
-        ensures { self.new ≡ self.old }
-    {
-        self.called = Some(table);
-    }
-
-    /// The place of the one to which a letter has just gone, if it waits here. It is told once.
-    pub fn called_place(&mut self) -> Option<usize>
-        ensures same { self.new ≡ self.old }
-        ensures place { IfSome result (λ place. place < length self.old) }
-    {
-        let table = self.called.take()?;
-        find_table(self.list.as_slice(), table)
-    }
-
     /// The least of the deadlines for which they wait.
     pub fn next_due(&self) -> Option<u64> {
         least_due(self.list.as_slice())
@@ -145,10 +125,14 @@ fn earlier(one: Option<u64>, other: Option<u64>) -> Option<u64> {
     }
 }
 
-/// The place of the process of the supervisor with this number.
-fn find_table<J: Drop, S: Drop>(resting: &[Rested<J, S>], table: usize) -> Option<usize>
+/// The place of the process of this supervisor, if one is asked for and waits.
+pub fn find_called<J: Drop, S: Drop>(
+    resting: &[Rested<J, S>],
+    called: Option<usize>,
+) -> Option<usize>
     ensures { IfSome result (λ place. place < length resting.now) }
 {
+    let table = called?;
     for place in 0..resting.len() {
         if resting[place].table == table {
             return Some(place);

@@ -5,7 +5,8 @@ ghost use Rattle.otp_bodies.specs.Letters.{Comes, carries_body, is_end_note};
 ghost use Rattle.otp_rules.specs.declared.event.Item.TheVariants as item;
 ghost use Rattle.otp_hand.specs.Begun.{NoneBegan};
 ghost use Rattle.otp_run.specs.Schedulers.{out};
-ghost use Rattle.otp_hand.specs.Ended.{NoneEnded, end_of, ends_held};
+ghost use Rattle.otp_hand.specs.Ended.{NoneEnded, ends_held};
+ghost use Rattle.otp_hand.specs.Hands.{one_if};
 ghost use Rattle.otp_hand.specs.Turns.{IsTold, Worked, WorkedAsTold, nested_by, table_above, table_nested};
 
 use crate::around::Around;
@@ -421,16 +422,6 @@ impl<N: WordsNaming + RunNaming, J: Drop, S: Drop> Runner<N, J, S> {
         }
     }
 
-    /// Notes the reading of the clock for this turn.
-    pub fn note_reading(&mut self, reading: u64)
-        ensures turning { self.new.turning ≡ self.old.turning }
-        ensures unsent { self.new.unsent ≡ self.old.unsent }
-        ensures begun { NoneBegan self.old.scheduler self.new.scheduler }
-        ensures ended { NoneEnded self.old.scheduler self.new.scheduler }
-    {
-        self.around.reading = reading;
-    }
-
     /// The next search looks at all that wait.
     pub fn look_at_all(&mut self)
         ensures turning { self.new.turning ≡ self.old.turning }
@@ -480,19 +471,19 @@ impl<N: WordsNaming + RunNaming, J: Drop, S: Drop> Runner<N, J, S> {
 }
 
 impl<N: WordsNaming + RunNaming, J: Job, S: Subsystem> Runner<N, J, S> {
-    /// A turn of the worker or the bridge that it has out, which is told what its supervisor has posted for it.
-    pub fn work_as_told(&mut self, words: &Words<N>)
+    /// A turn of the worker or the bridge that it has out, at this reading of the clock. It is told what its supervisor has posted for it.
+    pub fn work_as_told(&mut self, words: &Words<N>, reading: u64)
         requires { self.old.unsent ≡ None }
         ensures begun { NoneBegan self.old.scheduler self.new.scheduler }
         ensures ended { self.new.scheduler.ended ≡ self.old.scheduler.ended + ends_held self.new.unsent }
         ensures turn { IfSome self.old.turning (λ p. WorkedAsTold J.started S.inited J.is_trapping J.turned S.polled S.terminated words.now p self.old self.new) }
     {
         let told = self.look(words);
-        self.work(told);
+        self.work(told, reading);
     }
 
     /// A turn of the worker or the bridge that it has out, which is told this ([`one_turn_at`]).
-    fn work(&mut self, told: Signal)
+    fn work(&mut self, told: Signal, reading: u64)
         requires { self.old.unsent ≡ None }
         ensures turn { IfSome self.old.turning (λ p. Worked J.started S.inited J.is_trapping J.turned S.polled S.terminated told p self.old self.new) }
         ensures begun { NoneBegan self.old.scheduler self.new.scheduler }
@@ -508,7 +499,7 @@ impl<N: WordsNaming + RunNaming, J: Job, S: Subsystem> Runner<N, J, S> {
         }
         let ticket = process.ticket();
         self.around.take(process.slot());
-        let after = one_turn_at(process, told, &self.around.site());
+        let after = one_turn_at(process, told, &self.around.site(reading));
         match after {
             After::Again(process) => put_into(&mut self.turning, Some(process)),
             After::Waits(process) => {
@@ -518,24 +509,12 @@ impl<N: WordsNaming + RunNaming, J: Job, S: Subsystem> Runner<N, J, S> {
             }
             After::Begun(process, note) => {
                 put_into(&mut self.turning, Some(process));
-                let letter = started(note);
-                let unsent = Unsent {
-                    ticket,
-                    letter,
-                    note,
-                };
-                put_into(&mut self.unsent, Some(unsent));
+                put_into(&mut self.unsent, Some(unsent_to(ticket, note, None)));
             }
             After::Done(end, spent) => {
                 self.scheduler.finish(spent);
-                let note = end.note;
-                let letter = ended(end);
-                let unsent = Unsent {
-                    ticket,
-                    letter,
-                    note,
-                };
-                put_into(&mut self.unsent, Some(unsent));
+                let EndNote { note, body } = end;
+                put_into(&mut self.unsent, Some(unsent_to(ticket, note, Some(body))));
             }
         }
     }
@@ -593,21 +572,16 @@ fn keep_waiting<J: Drop, S: Drop>(
     }
 }
 
-/// The letter that a process has started.
-fn started<J: Drop, S: Drop>(note: Note) -> Letter<Body<J, S>>
-    requires { carries_body (item.Note note) ≡ false }
-    ensures letter { result ≡ record { item = item.Note note; body = None; end = None } }
-    ensures none { end_of result.item ≡ 0 }
+/// The letter by which a process tells its supervisor this note. That of its end brings the body home.
+fn unsent_to<J: Drop, S: Drop>(ticket: Ticket, note: Note, body: Option<Body<J, S>>) -> Unsent<J, S>
+    requires { carries_body (item.Note note) ≡ is_some body }
+    ensures letter { result ≡ record { ticket = ticket; letter = record { item = item.Note note; body = body; end = None }; note = note } }
+    ensures ends { ends_held (Some result) ≡ one_if (is_some body) }
 {
-    Letter::note(note, None)
-}
-
-/// The letter of a process's end, which brings the body home.
-fn ended<J: Drop, S: Drop>(end: EndNote<J, S>) -> Letter<Body<J, S>>
-    requires { carries_body (item.Note end.note) ≡ true }
-    ensures letter { result ≡ record { item = item.Note end.note; body = Some end.body; end = None } }
-    ensures one { end_of result.item ≡ 1 }
-{
-    let EndNote { note, body } = end;
-    Letter::note(note, Some(body))
+    let letter = Letter::note(note, body);
+    Unsent {
+        ticket,
+        letter,
+        note,
+    }
 }

@@ -76,7 +76,8 @@ impl<N: InboxNaming, B: Drop> Senders<N, B> {
         inbox.send(rt, &mut self.list[place], letter)
     }
 
-    /// A turn of a supervisor, whose orders go to this port. The sender to it is credited with what was done.
+    /// A turn of a supervisor, whose orders go to this port. The sender to it is credited with what was done; where there is none,
+    /// nothing is done.
     pub fn turn<R: Wait, P: Port<B>>(
         &mut self,
         rt: &R,
@@ -89,8 +90,7 @@ impl<N: InboxNaming, B: Drop> Senders<N, B> {
     ) -> Result<TurnAnswer, TurnFault>
     where
         N: WordsNaming + PlanNaming,
-        requires reaches { sup.now.inbox < length self.old }
-        requires reading { reading ≤ MAX_READING }
+        requires { reading ≤ MAX_READING }
         // A start was credited for each process that the port took, of which it keeps the rest as it was.
         ensures starts { starts_credited self.new + length (P.processes port.old) ≡ starts_credited self.old + length (P.processes port.new) }
         ensures beside { P.beside port.new ≡ P.beside port.old }
@@ -99,6 +99,9 @@ impl<N: InboxNaming, B: Drop> Senders<N, B> {
         ensures parts { parts_in self.new ≡ parts_in self.old }
     {
         let place = sup.inbox().number();
+        if place >= self.list.len() {
+            return Ok(TurnAnswer::Pending);
+        }
         let sender = &mut self.list[place];
         sup.turn(rt, words, sender, port, number, reading, told)
     }

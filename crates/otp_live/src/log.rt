@@ -13,11 +13,11 @@ use std::str;
 /// `-`. A line that memory is refused for, or that can't be written, is left out.
 ///
 /// ```text
-/// 0 pool/cache: up #4
-/// 1250 pool/cache: exit #4 error:crash
-/// 1250 pool: gave up #3: more than 2 restarts within 60 s
-/// 1250 table 1 cache: up #6
-/// 2000 root: stopped #1
+/// 0 pool/cache: up #3
+/// 1250 pool/cache: exit #3 error:crash
+/// 1250 pool: gave up #2: more than 2 restarts within 60 s
+/// 1250 table 1 cache: up #5
+/// 2000 root: stopped #0
 /// ```
 #[derive(Drop)]
 pub struct LogLines<'a, E> {

@@ -5,10 +5,11 @@ use Rattle.otp_run.specs.Lists.{AllAt}
 use Rattle.otp_run.specs.Opens.{opened}
 use Rattle.otp_spec.specs.declared.limits.TheConstants.{MAX_CHILDREN}
 use Rattle.otp_run.specs.Schedulers.{SchedulerState, out}
+use Rattle.otp_hand.specs.declared.client.TheConstants.{ROOT_NUMBER, ROOT_SLOT}
 use Rattle.otp_hand.specs.Begun.{root_at}
 use Rattle.otp_hand.specs.Hands.{HandView}
 
--- the first slot of the supervisor of this number: slot 0 is the root's own
+-- the first slot of the supervisor of this number: ROOT_SLOT is the root's own
 abbrev pub first_slot : ℕ → ℕ
 first_slot number = 1 + MAX_CHILDREN * number
 
@@ -40,9 +41,9 @@ pub record IsOpened (root : Ticket) (count place : ℕ) (s : SchedulerState) : T
   pub is : s ≡ opened_for root count place
   pub only : HasRootOnly s
 
--- the root's process: it has this number, slot 0, and tells whoever opened a tree of so many supervisors
-abbrev pub root_ticket : ℕ → ℕ → Ticket
-root_ticket number tables = record { number = number; slot = 0; table = tables; id = None; again = false }
+-- the root's process: it has the root's number and slot, and tells whoever opened a tree of so many supervisors
+abbrev pub root_ticket : ℕ → Ticket
+root_ticket tables = record { number = ROOT_NUMBER; slot = ROOT_SLOT; table = tables; id = None; again = false }
 
 module _ {J S : Type 0} where
   -- the hands of a tree that was just opened, in the order of their schedulers: so many as there are, and the first has put

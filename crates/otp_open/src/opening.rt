@@ -2,6 +2,7 @@
 ghost use Rattle.std.specs.Prelude.{◌≡◌, ◌+◌, ◌*◌, ◌<◌, ◌≤◌, ◌^◌, ◌++◌, ◌∷◌, [], Contains, IfErr, IfOk, OnOk, length, true};
 ghost use Rattle.otp_spec.specs.declared.limits.TheConstants.{MAX_CHILDREN, MAX_TABLES};
 ghost use Rattle.otp_core.specs.View.{state_of};
+ghost use Rattle.otp_hand.specs.declared.client.TheConstants.{ROOT_SLOT};
 ghost use Rattle.otp_rules.specs.Counts.{counts_of};
 ghost use Rattle.otp_bodies.specs.Bodies.{are_ready, count_opened};
 ghost use Rattle.otp_inbox.specs.Tokens.{first_sender, no_shares};
@@ -279,7 +280,7 @@ pub fn open_all<N: WordsNaming + InboxNaming + PlanNaming, J: Drop, S: Drop>(
     ensures senders { IfOk result (λ r. AllAt (λ k s. s ≡ first_sender k) r.senders.items) }
     ensures count { IfOk result (λ r. length r.senders.items ≡ length inboxes.items) }
     ensures passes { IfOk result (λ r. length r.passes.items ≡ length inboxes.items) }
-    ensures root { OnOk result (Contains owner.new.slots 0) }
+    ensures root { OnOk result (Contains owner.new.slots ROOT_SLOT) }
     ensures posts { OnOk result (owner.new.posts ≡ []) }
 {
     let count = inboxes.len();

@@ -45,7 +45,6 @@ pub record Called (table number : ℕ) (x : Call) (old new : ClientView) : Type 
   pub drawn : new.owner ≡ after_draw number old.owner
   pub there : table < length old.senders
   pub sent : (s : SenderState Message) → slice_get old.senders table ≡ Some s → new.senders ≡ slice_set old.senders table (record s { sent = s.sent ++ plain_message (item.Call number x) ∷ [] })
-  pub root : new.root ≡ old.root
   pub waiter : new.waiter ≡ old.waiter
 
 -- a number was drawn, and nothing else changed

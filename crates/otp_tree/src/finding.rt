@@ -3,7 +3,7 @@ ghost use Rattle.std.specs.Prelude.{◌≡◌, ◌<◌, ◌≤◌, length, is_so
 ghost use Rattle.otp_hand.specs.Standings.{standing_of};
 
 use crate::system::System;
-use otp_hand::{Hand, Rested, Senders, Shared, is_due};
+use otp_hand::{Hand, Rested, Senders, Shared, find_called, is_due};
 use otp_inbox::InboxNaming;
 use otp_job::Body;
 use otp_run::{RunNaming, SHARE_LIMIT};
@@ -53,8 +53,9 @@ impl<N: WordsNaming + InboxNaming + PlanNaming, J: Drop, S: Drop> System<N, J, S
         if hand.runner.turning.is_some() {
             return;
         }
-        let called = hand.runner.resting.called_place();
-        hand.runner.wake(called);
+        let called = hand.runner.around.called.take();
+        let place = find_called(hand.runner.resting.as_slice(), called);
+        hand.runner.wake(place);
         if hand.runner.turning.is_some() {
             return;
         }

@@ -1,5 +1,5 @@
 //! A tree is opened: its parts without a name first, then the tree under a name.
-ghost use Rattle.std.specs.Prelude.{◌≡◌, ◌+◌, ◌*◌, ◌<◌, ◌≤◌, [], IfErr, IfOk, IfSome, OnOk, length, is_some, true};
+ghost use Rattle.std.specs.Prelude.{◌≡◌, ◌+◌, ◌*◌, ◌<◌, ◌≤◌, [], IfErr, IfOk, OnOk, length, is_some, true};
 ghost use Rattle.otp_spec.specs.declared.limits.TheConstants.{MAX_TABLES};
 ghost use Rattle.otp_close.specs.Closes.{IsReached, all_senders};
 ghost use Rattle.otp_close.specs.Partings.{schedulers_of};
@@ -12,7 +12,7 @@ ghost use Rattle.otp_open.specs.Plans.{HaveBodies, IsOpenFault};
 
 use crate::system::System;
 use otp_counts::CountsPass;
-use otp_hand::{Client, Hand, Shared};
+use otp_hand::{Client, Hand, ROOT_NUMBER, ROOT_SLOT, Shared};
 use otp_inbox::{InboxNaming, UnnamedInbox};
 use otp_job::{Body, Process, TableNo};
 use otp_open::{Named, SLOTS, SystemFault, TablePlan, make_hands, open_all, open_inboxes, seat};
@@ -103,14 +103,14 @@ impl<J: Drop, S: Drop> Parts<J, S> {
         requires deques { AllAt (λ k id. id ≡ N.deque k) self.queue }
         requires slots { self.words.slots ≡ slots_of (length self.inboxes.items) }
         requires few { length self.inboxes.items ≤ MAX_TABLES }
-        ensures root { IfOk result (λ o. is_some o.client.root ≡ true) }
+        ensures first { IfOk result (λ o. is_some o.client.waiter ≡ true) }
         ensures tables { IfOk result (λ o. o.system.tables ≡ length self.inboxes.items) }
         ensures bodies { OnOk result (HaveBodies self.plans.items) }
         ensures fault { IfErr result (IsOpenFault self.plans.items) }
         ensures passes { IfOk result (λ o. CanRead (length self.inboxes.items) o.hands.items) }
         // There are as many hands as were asked for, in the order of their schedulers, and the first has put the root's process: it
-        // has the number for which the client stops it.
-        ensures hands { IfOk result (λ o. IfSome o.client.root (λ number. AreOpened (root_ticket number (length self.inboxes.items)) (length self.queue) o.hands.items)) }
+        // has the number and the slot for which the client stops it.
+        ensures hands { IfOk result (λ o. AreOpened (root_ticket (length self.inboxes.items)) (length self.queue) o.hands.items) }
         // All parts are there, so that it can be closed again.
         ensures complete { IfOk result (λ o. 0 < length self.queue → IsAll (schedulers_of o.hands.items) × IsReached o.system.tables o.client (all_senders o.client o.hands.items)) }
         ensures own { IfOk result (λ o. length o.passes.items ≡ length self.inboxes.items) }
@@ -132,15 +132,12 @@ impl<J: Drop, S: Drop> Parts<J, S> {
             senders,
             mut passes,
         } = open_all(alloc, &words, &mut owner, inboxes, plans)?;
-        let Ok(root) = words.draw(&mut owner) else {
-            return Err(SystemFault::OutOfMemory);
-        };
         let (outer, waiter, sender) = outer.named::<N>(tables);
         let mut senders = seat(senders, sender)?;
         let shared = Shared { words, sups, outer };
         let schedulers = queue.named::<N>(alloc)?;
         let body = Body::Sup(TableNo::new(0));
-        let Ok(process) = Process::new(alloc, root, 0, tables, body) else {
+        let Ok(process) = Process::new(alloc, ROOT_NUMBER, ROOT_SLOT, tables, body) else {
             return Err(SystemFault::OutOfMemory);
         };
         let hands = make_hands(
@@ -152,7 +149,7 @@ impl<J: Drop, S: Drop> Parts<J, S> {
             viewer,
             process,
         )?;
-        let client = Client::first(owner, senders, root, waiter);
+        let client = Client::first(owner, senders, waiter);
         Ok(Opened {
             system: System { shared },
             hands,

@@ -73,7 +73,6 @@ impl<N: WordsNaming + InboxNaming + PlanNaming, J: Job, S: Subsystem> System<N, 
         if !self.send_unsent(rt, hand, listener) || !self.find(hand, reading) {
             return false;
         }
-        hand.runner.note_reading(reading);
         let parent = hand.runner.parent();
         match hand.runner.nested() {
             Some((table, number)) => {
@@ -82,7 +81,7 @@ impl<N: WordsNaming + InboxNaming + PlanNaming, J: Job, S: Subsystem> System<N, 
             }
             None => {
                 let before = hand.runner.waiting.len();
-                hand.runner.work_as_told(&self.shared.words);
+                hand.runner.work_as_told(&self.shared.words, reading);
                 tell_of_wait(listener, parent, before, hand.runner.waiting.len());
             }
         }
@@ -131,7 +130,10 @@ impl<N: WordsNaming + InboxNaming + PlanNaming, J: Job, S: Subsystem> System<N, 
             return;
         };
         let begun = hand.runner.scheduler.share().begun;
-        let answer = hand.turn_nested(rt, &self.shared.words, sup, number, reading, told);
+        let words = &self.shared.words;
+        let answer = hand
+            .senders
+            .turn(rt, words, sup, &mut hand.runner, number, reading, told);
         if answer == Ok(TurnAnswer::Quiet) {
             let due = sup.next_deadline(rt);
             hand.runner.rest(table, told, due);
@@ -177,7 +179,7 @@ impl<N: WordsNaming + InboxNaming + PlanNaming, J: Job, S: Subsystem> System<N, 
         let what = happening_of(note, letter.end(), ticket.again);
         match hand.senders.send(rt, inbox, letter) {
             Ok(()) => {
-                hand.runner.resting.call(ticket.table);
+                hand.runner.around.called = Some(ticket.table);
                 listener.sent(&ticket, what);
                 true
             }

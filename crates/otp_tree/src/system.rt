@@ -3,6 +3,7 @@ ghost use Rattle.std.specs.Prelude.{◌≡◌, ◌↔◌, ◌<◌, is_some, leng
 ghost use Rattle.otp_signals.specs.Holdings.{after_post};
 ghost use Rattle.otp_signals.specs.Signals.{word_of};
 ghost use Rattle.otp_signals.specs.declared.signal.Signal.TheVariants.{Shutdown};
+ghost use Rattle.otp_hand.specs.declared.client.TheConstants.{ROOT_NUMBER, ROOT_SLOT};
 ghost use Rattle.otp_hand.specs.Hands.{Heard};
 ghost use Rattle.otp_hand.specs.Readings.{HasRead};
 ghost use Rattle.otp_hand.specs.Standings.{reach_of};
@@ -46,10 +47,10 @@ impl<N: WordsNaming + InboxNaming + PlanNaming, J: Drop, S: Drop> System<N, J, S
     /// Asks the root to shut down: it stops its children, and ends. False, and nothing happens, where this isn't the
     /// client that the tree was opened with.
     pub fn stop(&self, client: &mut Client<N, Body<J, S>>) -> bool
-        ensures told { result ≡ is_some client.old.root }
+        ensures told { result ≡ is_some client.old.waiter }
         // The shutdown was posted to the root's slot, for its number.
-        ensures posted { IfSome client.old.root (λ number. client.new ≡ record client.old { owner = after_post 0 (word_of number Shutdown) client.old.owner }) }
-        ensures same { IfNone client.old.root (client.new ≡ client.old) }
+        ensures posted { IfSome client.old.waiter (λ _. client.new ≡ record client.old { owner = after_post ROOT_SLOT (word_of ROOT_NUMBER Shutdown) client.old.owner }) }
+        ensures same { IfNone client.old.waiter (client.new ≡ client.old) }
         ensures reach { reach_of client.new ≡ reach_of client.old }
     {
         client.stop(&self.shared.words)
@@ -63,7 +64,6 @@ impl<N: WordsNaming + InboxNaming + PlanNaming, J: Drop, S: Drop> System<N, J, S
         ensures nothing { IfNone result (HeardNothing self.now.tables client.old client.new) }
         ensures owner { client.new.owner ≡ client.old.owner }
         ensures senders { client.new.senders ≡ client.old.senders }
-        ensures root { client.new.root ≡ client.old.root }
         ensures reach { reach_of client.new ≡ reach_of client.old }
     {
         let waiter = client.waiter.as_mut()?;

@@ -160,10 +160,13 @@ fn ends_in(items: &[Item]) -> u64 {
     ends
 }
 
-// 1 is the root's number. Each of the next was given to one child of one supervisor, and no other number to any.
+// 0 is the root's number. Each of the next was given to one child of one supervisor, and no other number to any.
 fn check_numbers<R: Abort>(rt: &R, alloc: Global, report: &Closed) {
-    let count = report.begun.saturating_add(1) as usize;
-    let mut given = got(rt, MEMORY, Vec::from_elem(alloc, false, count));
+    let mut given = got(
+        rt,
+        MEMORY,
+        Vec::from_elem(alloc, false, report.begun as usize),
+    );
     for table in report.tables.as_slice() {
         marks_all(rt, given.as_mut_slice(), table);
     }
@@ -180,7 +183,7 @@ fn marks_all<R: Abort>(rt: &R, given: &mut [bool], table: &TableReport) {
 }
 
 fn marks_one(rt: &impl Abort, given: &mut [bool], number: u64) {
-    assert!(rt; number > 1);
+    assert!(rt; number > 0);
     match given.get_mut(number as usize) {
         Some(mark) => {
             assert!(rt; !*mark);
@@ -210,14 +213,14 @@ fn check_small<R: Abort>(rt: &R, report: &Closed) {
     let counted = (report.begun, report.ended, report.live);
     same(rt, "the processes", counted, (4, 4, 0));
     // Nobody took what the root told: that it was up, and its end.
-    let end = Note::Exit(1, Reason::Shutdown);
-    let told = [Item::Note(Note::Up(1)), Item::Note(end)];
+    let end = Note::Exit(0, Reason::Shutdown);
+    let told = [Item::Note(Note::Up(0)), Item::Note(end)];
     same(rt, "what is left", report.last.as_slice(), told.as_slice());
 }
 
 // The supervisor's turn started the first worker, and the second turn was the worker's.
 fn has_answer_left<R: Abort>(rt: &R, report: &Closed) {
-    let up = [Item::Note(Note::Up(2))];
+    let up = [Item::Note(Note::Up(1))];
     match report.tables.first() {
         Some(root) => same(rt, "what it left", root.left.as_slice(), up.as_slice()),
         None => panic!(rt; "a supervisor"),

@@ -356,7 +356,7 @@ fn has_call_left(rt: &impl Abort, report: &Closed) {
 }
 
 // Adds the child `y` to `sub`, lets `x` crash, so that `sub` gives up and is started anew, and lists the children of `sub` before and
-// after: `y` has the fifth number (the call itself had one), and is gone after the restart. `x` is there already then, and its second
+// after: `y` has the fourth number (the call itself had one), and is gone after the restart. `x` is there already then, and its second
 // body comes back.
 const ADDS: Life = Life {
     grove: Grove::Fragile,
@@ -378,7 +378,7 @@ const ADDS: Life = Life {
         Seen::Up,
         Seen::NoSupervisor,
         Seen::WrongBody,
-        Seen::Started(5),
+        Seen::Started(4),
         Seen::Listed(2),
         Seen::Listed(1),
         Seen::AlreadyThere(true),
@@ -431,7 +431,7 @@ const DISTURBED: Life = Life {
         Step::Stop,
         Step::End,
     ],
-    seen: &[Seen::Up, Seen::Ok, Seen::Started(9), END],
+    seen: &[Seen::Up, Seen::Ok, Seen::Started(8), END],
     ..UP_AND_DOWN
 };
 

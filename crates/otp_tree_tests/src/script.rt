@@ -129,11 +129,11 @@ impl Script {
     fn hear_note(&mut self, told: Option<Note>) {
         match told {
             None => {}
-            Some(Note::Up(1)) => {
+            Some(Note::Up(0)) => {
                 self.is_up = true;
                 self.see(Seen::Up);
             }
-            Some(Note::Exit(1, reason)) => {
+            Some(Note::Exit(0, reason)) => {
                 self.has_ended = true;
                 self.see(Seen::Ended(reason));
             }

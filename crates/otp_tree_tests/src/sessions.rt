@@ -38,7 +38,7 @@ fn serve_alone<N: WordsNaming + InboxNaming + PlanNaming + RunNaming, R: Wait + 
     let mut is_up = false;
     for _ in 0..10_000 {
         match system.root_note(rt, client) {
-            Some(Note::Up(1)) => is_up = true,
+            Some(Note::Up(0)) => is_up = true,
             Some(note) => return Some(note),
             None => {}
         }
@@ -63,7 +63,7 @@ fn lives_alone<N: WordsNaming + InboxNaming + PlanNaming + RunNaming, R: Wait + 
 ) {
     assert!(rt; system.tables() == 2 && hands.len() == 2 && client.is_first());
     let end = serve_alone(rt, system, hands, client, shared);
-    same(rt, "its end", end, Some(Note::Exit(1, Reason::Shutdown)));
+    same(rt, "its end", end, Some(Note::Exit(0, Reason::Shutdown)));
     same(rt, "the starts of workers", shared.starts(), STARTS);
 }
 

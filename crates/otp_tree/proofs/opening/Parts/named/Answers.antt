@@ -1,5 +1,5 @@
 use Rattle.std.proofs.Common.{◌≡◌, ◌+◌, ap, arith, length, map, sym, subst, ◌∙◌}
-use Rattle.std.specs.Prelude.{Contains, IfSome}
+use Rattle.std.specs.Prelude.{Contains}
 use Rattle.otp_signals.specs.declared.view.Holding.{Holding}
 use Rattle.otp_open.proofs.Fresh.{all_idle}
 use Rattle.otp_open.specs.Opens.{AreOpened, IsIdle, root_ticket}
@@ -22,7 +22,7 @@ make_hands-requires g c =
     subst (λ n. AllAt (IsIdle n) c.in_ok-schedulers.schedulers.items) (sym opened.count) (all_idle _ _ opened.opened)
 
 pub first-client-requires-clause-slot : goal.first-client-requires-clause-slot
-first-client-requires-clause-slot g c = subst (λ (o : Holding). Contains o.slots 0) (sym (c.in-Ok.ensures {u = tt}).drawn) (c.in_ok-sups.ensures {u = tt}).root
+first-client-requires-clause-slot g c = (c.in_ok-sups.ensures {u = tt}).root
 
 pub first-client-requires-clause-given : goal.first-client-requires-clause-given
 first-client-requires-clause-given g c = ap (λ (t : TakerState Message). t.given) c.named-outer.ensures.taker
@@ -37,7 +37,7 @@ pub returns-clause-own : goal.returns-clause-own
 returns-clause-own g c = ap length (c.in_ok-hands.ensures {u = tt}).same ∙ (c.in_ok-sups.ensures {u = tt}).passes
 
 pub returns-clause-unasked : goal.returns-clause-unasked
-returns-clause-unasked g c = ap (λ (v : ClientView). v.owner.posts) c.first-client.ensures ∙ ap (λ (h : Holding). h.posts) (c.in-Ok.ensures {u = tt}).drawn ∙ (c.in_ok-sups.ensures {u = tt}).posts
+returns-clause-unasked g c = ap (λ (v : ClientView). v.owner.posts) c.first-client.ensures ∙ (c.in_ok-sups.ensures {u = tt}).posts
 
 pub returns-clause-hands : goal.returns-clause-hands
 returns-clause-hands g c =
@@ -49,9 +49,8 @@ returns-clause-hands g c =
     let count = c.len-tables.ensures in
     let ok = c.args.self.inboxes.ok.0 in
     let same : c.len-tables.result ≡ tables = omega (arith, count, ok) in
-    let ticket = ap (λ p. p.ticket) (c.in-Ok-new.ensures {u = tt}).made ∙ ap (root_ticket c.in-Ok.root) same in
-    subst (λ (v : ClientView). IfSome v.root (λ number. AreOpened (root_ticket number tables) (length queue) hands)) (sym c.first-client.ensures)
-    (subst (λ t. AreOpened t (length queue) hands) ticket (subst (λ n. AreOpened c.in-Ok-new.process.ticket n hands) many opened))
+    let ticket = ap (λ p. p.ticket) (c.in-Ok.ensures {u = tt}).made ∙ ap root_ticket same in
+    subst (λ t. AreOpened t (length queue) hands) ticket (subst (λ n. AreOpened c.in-Ok.process.ticket n hands) many opened)
 
 pub returns-clause-complete : goal.returns-clause-complete
 returns-clause-complete g c = λ some.
@@ -65,7 +64,7 @@ returns-clause-complete g c = λ some.
     let count = c.len-tables.ensures in
     let ok = c.args.self.inboxes.ok.0 in
     let same : c.len-tables.result ≡ tables = omega (arith, count, ok) in
-    opened_complete c.in-Ok-new.process.ticket (length c.in_ok-schedulers.schedulers.items) tables _ hands c.first-client.result c.in_ok-senders.senders c.named-outer.result.1 (omega (arith, some, schedulers)) made.opened
+    opened_complete c.in-Ok.process.ticket (length c.in_ok-schedulers.schedulers.items) tables _ hands c.first-client.result c.in_ok-senders.senders c.named-outer.result.1 (omega (arith, some, schedulers)) made.opened
     (returns-clause-tables g c)
     (ap (λ (v : ClientView). v.waiter) client)
     (ap (λ (w : TakerState Message). w.inbox) c.named-outer.ensures.taker ∙ same)
