@@ -123,6 +123,13 @@ impl Around {
         }
     }
 
+    /// Wakes the process that has this slot, in whichever hand it waits.
+    pub fn wake(&self, slot: usize) {
+        if let Some(post) = &self.post {
+            post.wake(slot);
+        }
+    }
+
     /// Notes that it has a turn.
     pub fn take(&self, slot: usize) {
         if let Some(post) = &self.post {

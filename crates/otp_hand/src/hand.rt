@@ -89,6 +89,11 @@ impl<N: WordsNaming + InboxNaming + RunNaming, J: Drop, S: Drop> Hand<N, J, S> {
         self.runner.around.stock()
     }
 
+    /// The reading of the clock for its last turn.
+    pub fn reading(&self) -> u64 {
+        self.runner.around.reading
+    }
+
     /// From now on jobs that wait in this hand may be woken by this post.
     ///
     /// # Errors

@@ -129,6 +129,11 @@ impl<N: WordsNaming + RunNaming, J: Drop, S: Drop> Port<Body<J, S>> for Runner<N
         self.refusals.raise();
         Err(note)
     }
+
+    /// A signal wakes the process for which it was posted, as a waker does.
+    fn posted(&self, slot: usize) {
+        self.around.wake(slot);
+    }
 }
 
 /// The number of the supervisor that runs in the process that is out: its children's notes go to it.
@@ -305,6 +310,10 @@ impl<N: WordsNaming + RunNaming, J: Drop, S: Drop> Runner<N, J, S> {
         let Some(process) = self.turning.take() else {
             return;
         };
+        // Whoever posts a signal for it from now on finds this hand. One that was posted in its turn is found by this hand's look.
+        let _unwoken = self
+            .around
+            .begins_to_wait(process.slot(), self.scheduler.index());
         let rested = Rested {
             process,
             table,

@@ -10,6 +10,7 @@ ghost use Rattle.otp_open.specs.Plans.{HaveBodies, plans_of};
 use crate::caller::Caller;
 use crate::clock::Stopwatch;
 use crate::crew::Crew;
+use crate::crowd::Crowd;
 use crate::locked::{Locked, ReachNaming};
 use crate::seat::Seat;
 use crate::served::serve_tree;
@@ -30,9 +31,6 @@ use std::time::{Clock, Duration};
 
 /// So many turns a hand makes before it looks at the clock and the stop again.
 const BATCH: u32 = 16;
-
-/// So many batches in a row a hand had more than one process in its run queue before it wakes another hand.
-const PATIENCE: u32 = 2;
 
 /// So many milliseconds a hand sleeps that was refused memory before it tries again.
 const PAUSE: u64 = 1;
@@ -269,7 +267,7 @@ where
     let crew = seat.crew;
     // Where this is refused, which it isn't, jobs that ask for a waker at their start get none.
     let _opened = hand.open_post(&crew.post);
-    let mut crowded: u32 = 0;
+    let mut crowd = Crowd::new();
     for _ in rt.forever() {
         if crew.has_ended() || crew.keep_time() {
             return;
@@ -283,7 +281,7 @@ where
         let is_busy = serve_some(rt, seat, system, hand);
         collect_answers(rt, seat, system);
         if is_busy {
-            crowded = share(seat, hand.stock(), crowded);
+            share(seat, &mut crowd, hand.stock(), hand.reading());
         } else {
             sleep(rt, seat, system, hand);
         }
@@ -377,20 +375,16 @@ where
     }
 }
 
-/// Wakes another hand where this one has had more to do than one process for so long. How long it has so far.
+/// Wakes another hand where this one has had more to do for so long than one process after the other.
 fn share<C: Clock, W: Watch, J: Drop, S: Drop>(
     seat: &Seat<'_, C, W, J, S>,
+    crowd: &mut Crowd,
     stock: u32,
-    crowded: u32,
-) -> u32 {
-    if stock < 2 {
-        return 0;
+    reading: u64,
+) {
+    if crowd.is_to_share(stock, seat.take_news(), reading) {
+        seat.crew.wake_another(seat.hand);
     }
-    if crowded < PATIENCE {
-        return crowded + 1;
-    }
-    seat.crew.wake_another(seat.hand);
-    0
 }
 
 /// Sleeps until there may be something to do for a hand. It returns at once where there is.

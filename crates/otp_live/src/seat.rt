@@ -14,6 +14,8 @@ pub(crate) struct Seat<'a, C, W, J: Drop, S: Drop> {
     pub hand: usize,
     // Whether it served a supervisor since it was asked last.
     served: AtomicU64,
+    // How much was told of its turns since it was asked last.
+    news: AtomicU64,
 }
 
 impl<'a, C, W, J: Drop, S: Drop> Seat<'a, C, W, J, S> {
@@ -23,6 +25,7 @@ impl<'a, C, W, J: Drop, S: Drop> Seat<'a, C, W, J, S> {
             crew,
             hand,
             served: AtomicU64::new(0),
+            news: AtomicU64::new(0),
         }
     }
 
@@ -30,23 +33,40 @@ impl<'a, C, W, J: Drop, S: Drop> Seat<'a, C, W, J, S> {
     pub fn has_served(&self) -> bool {
         self.served.load(Ordering::Relaxed) != 0 && self.served.swap(0, Ordering::Relaxed) != 0
     }
+
+    /// How much was told of its turns since it was asked last: letters sent, supervisors served, and who began to wait. Nothing is told
+    /// of a turn of a job that goes on.
+    pub fn take_news(&self) -> u64 {
+        let news = self.news.load(Ordering::Relaxed);
+        self.news.store(0, Ordering::Relaxed);
+        news
+    }
+
+    // The hand's thread alone counts, so no sum is lost.
+    fn note_news(&self) {
+        let news = self.news.load(Ordering::Relaxed);
+        self.news.store(news.saturating_add(1), Ordering::Relaxed);
+    }
 }
 
 impl<C: Clock, W: Watch, J: Drop, S: Drop> Listener for Seat<'_, C, W, J, S> {
     fn sent(&self, table: usize, note: Note) {
+        self.note_news();
         self.crew.sent(self.hand, table, note);
     }
 
     fn served(&self, table: usize) {
+        self.note_news();
         self.served.store(1, Ordering::Relaxed);
-        self.crew.wake_children(self.hand, table);
+        self.crew.is_up(table);
     }
 
-    fn rests(&self, table: usize, parent: usize) {
-        self.crew.rests(self.hand, table, parent);
+    fn rests(&self, table: usize, _parent: usize) {
+        self.note_news();
+        self.crew.rests(self.hand, table);
     }
 
-    fn waits(&self, parent: usize) {
-        self.crew.waits(self.hand, parent);
+    fn waits(&self, _parent: usize) {
+        self.note_news();
     }
 }
