@@ -70,6 +70,15 @@ impl<N: WordsNaming + InboxNaming + RunNaming, J: Drop, S: Drop> Hand<N, J, S> {
         self.runner.around.is_to_try_others();
     }
 
+    /// The next searches leave the deques of all other hands alone.
+    pub fn spare_others(&mut self)
+        ensures unsent { self.new.unsent ≡ self.old.unsent }
+        ensures passes { self.new.passes ≡ self.old.passes }
+        ensures standing { standing_of self.new ≡ standing_of self.old }
+    {
+        self.runner.around.tried_in_vain();
+    }
+
     /// Whether a search may find something at this reading of the clock, though nothing has changed since one that gave nothing: a
     /// deadline has come, something was refused for want of memory, or it is time to try the deques of other hands again.
     pub fn may_find(&mut self, reading: u64) -> bool
@@ -87,11 +96,6 @@ impl<N: WordsNaming + InboxNaming + RunNaming, J: Drop, S: Drop> Hand<N, J, S> {
     /// How many processes its own deque has at most, which other hands might take.
     pub fn stock(&self) -> u32 {
         self.runner.around.stock()
-    }
-
-    /// The reading of the clock for its last turn.
-    pub fn reading(&self) -> u64 {
-        self.runner.around.reading
     }
 
     /// From now on jobs that wait in this hand may be woken by this post.

@@ -29,6 +29,8 @@ pub(crate) struct Crew<'a, C, W, J: Drop, S: Drop> {
     // In which hand each supervisor rests, as that number and 1, or 0 while it has turns; and one for whoever opened the tree.
     homes: Vec<AtomicU64>,
     hands: usize,
+    // How many hands have something that others could take.
+    crowds: AtomicU64,
     is_asked: AtomicU64,
     has_ended: AtomicU64,
 }
@@ -65,6 +67,7 @@ impl<'a, C: Clock, W: Watch, J: Drop, S: Drop> Crew<'a, C, W, J, S> {
             watch,
             homes,
             hands: hands.min(MAX_HANDS),
+            crowds: AtomicU64::new(0),
             is_asked: AtomicU64::new(0),
             has_ended: AtomicU64::new(0),
         })
@@ -143,6 +146,21 @@ impl<'a, C: Clock, W: Watch, J: Drop, S: Drop> Crew<'a, C, W, J, S> {
                 }
             }
         }
+    }
+
+    /// Notes that a hand has something that others could take, or no longer, if that is new.
+    pub fn note_crowd(&self, was_there: bool, is_there: bool) {
+        if is_there && !was_there {
+            self.crowds.fetch_add(1, Ordering::SeqCst);
+        }
+        if was_there && !is_there {
+            self.crowds.fetch_sub(1, Ordering::SeqCst);
+        }
+    }
+
+    /// Whether some hand has something that others could take.
+    pub fn is_crowded(&self) -> bool {
+        self.crowds.load(Ordering::SeqCst) != 0
     }
 
     /// Wakes one other hand that sleeps, if there is one, so that it takes something off this one.

@@ -1,4 +1,8 @@
-//! When a hand has so much to do that another is to be woken.
+//! Whether a hand has something that another could take.
+
+/// So many turns a hand makes in a batch, before it looks at the clock and the stop again. Where the last batch took a millisecond or more
+/// it makes one.
+const BATCH: u32 = 16;
 
 /// A run queue of so many processes is crowded, whatever they do.
 const MANY: u32 = 4;
@@ -6,8 +10,8 @@ const MANY: u32 = 4;
 /// In a batch of turns of which so much was told, half of them did something that others wait for.
 const EVENTFUL: u64 = 8;
 
-/// So many batches in a row a run queue is crowded before another hand is woken.
-const PATIENCE: u32 = 2;
+/// A run queue that is crowded after so many batches in a row is a crowd; and each time so many later another hand is woken for it.
+const PATIENCE: u32 = 3;
 
 /// How long the run queue of a hand has been crowded.
 ///
@@ -17,37 +21,47 @@ const PATIENCE: u32 = 2;
 #[derive(Drop)]
 pub(crate) struct Crowd {
     batches: u32,
+    // When the last batch ended, and whether the clock went on meanwhile.
     reading: u64,
+    was_long: bool,
 }
 
 impl Crowd {
-    /// No batch has been made yet.
+    /// No batch of turns has been made yet.
     pub fn new() -> Crowd {
         Crowd {
             batches: 0,
             reading: 0,
+            was_long: false,
         }
     }
 
-    /// Notes a batch of turns that began at this reading of the clock: how many processes are in the run queue after it, and how much
-    /// was told of it. Whether another hand is to be woken.
-    pub fn is_to_share(&mut self, stock: u32, news: u64, reading: u64) -> bool {
-        let was_long = self.reading < reading;
+    /// How many turns the next batch has.
+    pub fn turns(&self) -> u32 {
+        if self.was_long { 1 } else { BATCH }
+    }
+
+    /// Notes a batch of turns that ended at this reading of the clock: how many processes are in the run queue after it, and how much
+    /// was told of it.
+    pub fn note(&mut self, stock: u32, news: u64, reading: u64) {
+        self.was_long = self.reading < reading;
         self.reading = reading;
-        if !is_crowded(stock, news, was_long) {
-            self.batches = 0;
-            return false;
-        }
-        if self.batches < PATIENCE {
-            self.batches += 1;
-            return false;
-        }
-        self.batches = 0;
-        true
+        let goes_on = self.was_long || news < EVENTFUL;
+        let is_crowded = stock >= MANY || (stock >= 2 && goes_on);
+        self.batches = if is_crowded {
+            self.batches.saturating_add(1)
+        } else {
+            0
+        };
     }
-}
 
-/// Whether a run queue has something for another hand.
-fn is_crowded(stock: u32, news: u64, was_long: bool) -> bool {
-    stock >= MANY || (stock >= 2 && (news < EVENTFUL || was_long))
+    /// Whether other hands may take something.
+    pub fn is_there(&self) -> bool {
+        self.batches >= PATIENCE
+    }
+
+    /// Whether another hand is to be woken for it after this batch.
+    pub fn wakes_another(&self) -> bool {
+        self.is_there() && self.batches % PATIENCE == 0
+    }
 }

@@ -29,9 +29,6 @@ use std::sync::{Arc, Mutex, Wait};
 use std::thread::Threads;
 use std::time::{Clock, Duration};
 
-/// So many turns a hand makes before it looks at the clock and the stop again.
-const BATCH: u32 = 16;
-
 /// So many milliseconds a hand sleeps that was refused memory before it tries again.
 const PAUSE: u64 = 1;
 
@@ -278,22 +275,23 @@ where
         if crew.is_called() {
             send_calls(rt, seat, system, client);
         }
-        let is_busy = serve_some(rt, seat, system, hand);
+        mind_crowds(crew, hand);
+        let is_busy = serve_some(rt, seat, system, hand, crowd.turns());
         collect_answers(rt, seat, system);
-        if is_busy {
-            share(seat, &mut crowd, hand.stock(), hand.reading());
-        } else {
+        share(seat, &mut crowd, hand.stock());
+        if !is_busy {
             sleep(rt, seat, system, hand);
         }
     }
 }
 
-/// Some turns of a hand, at one reading of the clock. False where it found nothing to do in the last.
+/// So many turns of a hand, at one reading of the clock. False where it found nothing to do in the last.
 fn serve_some<N, R, J, S, W>(
     rt: &R,
     seat: &Seat<'_, R, W, J, S>,
     system: &System<N, J, S>,
     hand: &mut Hand<N, J, S>,
+    turns: u32,
 ) -> bool
 where
     N: WordsNaming + InboxNaming + PlanNaming + RunNaming,
@@ -304,7 +302,7 @@ where
     ensures { standing_of hand.new ≡ standing_of hand.old }
 {
     let reading = seat.crew.clock.reading();
-    for _ in 0..BATCH {
+    for _ in 0..turns {
         if !system.turn_heard(rt, hand, reading, seat) {
             return false;
         }
@@ -375,15 +373,37 @@ where
     }
 }
 
-/// Wakes another hand where this one has had more to do for so long than one process after the other.
+/// Lets a hand try the deques of others in its next searches only where one of them is crowded. What is in a deque has its turns there;
+/// whoever took one of two processes that wait for each other would be waited for.
+fn mind_crowds<N, C, W, J, S>(crew: &Crew<'_, C, W, J, S>, hand: &mut Hand<N, J, S>)
+where
+    N: WordsNaming + InboxNaming + RunNaming,
+    C: Clock,
+    W: Watch,
+    J: Drop,
+    S: Drop,
+    ensures { standing_of hand.new ≡ standing_of hand.old }
+{
+    if crew.is_crowded() {
+        hand.try_others();
+    } else {
+        hand.spare_others();
+    }
+}
+
+/// Tells the others whether this hand, with so many processes in its deque after a batch of turns, has something for them, and wakes one
+/// where it has had it for long.
 fn share<C: Clock, W: Watch, J: Drop, S: Drop>(
     seat: &Seat<'_, C, W, J, S>,
     crowd: &mut Crowd,
     stock: u32,
-    reading: u64,
 ) {
-    if crowd.is_to_share(stock, seat.take_news(), reading) {
-        seat.crew.wake_another(seat.hand);
+    let crew = seat.crew;
+    let was_there = crowd.is_there();
+    crowd.note(stock, seat.take_news(), crew.clock.reading());
+    crew.note_crowd(was_there, crowd.is_there());
+    if crowd.wakes_another() {
+        crew.wake_another(seat.hand);
     }
 }
 
@@ -411,7 +431,7 @@ where
         drop(announced);
         return;
     }
-    hand.try_others();
+    mind_crowds(crew, hand);
     let reading = crew.clock.reading();
     if system.look_at_all(hand, reading) {
         drop(announced);
