@@ -29,6 +29,8 @@ pub struct Around {
     stock: u32,
     // How many turns ago the last came back of those that stand aside.
     passed_by: u32,
+    // Whether jobs that were told something have their turns by way of the deque.
+    is_crowd: bool,
 }
 
 impl Around {
@@ -40,6 +42,7 @@ impl Around {
             theft_pause: 0,
             stock: 0,
             passed_by: 0,
+            is_crowd: false,
         }
     }
 
@@ -75,6 +78,16 @@ impl Around {
         }
         self.passed_by = 0;
         true
+    }
+
+    /// Whether there is so much to do here that other hands may take what was told something.
+    pub fn is_crowd(&self) -> bool {
+        self.is_crowd
+    }
+
+    /// Notes whether there is.
+    pub fn note_crowd(&mut self, is_crowd: bool) {
+        self.is_crowd = is_crowd;
     }
 
     /// Whether it is to try the other deques too.

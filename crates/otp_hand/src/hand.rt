@@ -93,6 +93,16 @@ impl<N: WordsNaming + InboxNaming + RunNaming, J: Drop, S: Drop> Hand<N, J, S> {
         self.runner.around.is_worth_a_search(due, reading)
     }
 
+    /// Notes whether there is so much to do here that other hands may take jobs that were told something: then these have their turns by
+    /// way of the deque.
+    pub fn note_crowd(&mut self, is_crowd: bool)
+        ensures unsent { self.new.unsent ≡ self.old.unsent }
+        ensures passes { self.new.passes ≡ self.old.passes }
+        ensures standing { standing_of self.new ≡ standing_of self.old }
+    {
+        self.runner.around.note_crowd(is_crowd);
+    }
+
     /// How many processes its own deque has at most, which other hands might take.
     pub fn stock(&self) -> u32 {
         self.runner.around.stock()

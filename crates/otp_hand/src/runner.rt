@@ -239,8 +239,38 @@ impl<N: WordsNaming + RunNaming, J: Drop, S: Drop> Runner<N, J, S> {
         put_into(&mut self.turning, Some(rested.process));
     }
 
-    /// Gives its turn to a job that waits, or stands aside, and was told something, if it is one of those that are looked at now.
+    /// Gives its turn to a job that waits, or stands aside, and was told something, if it is one of those that are looked at now. In a
+    /// crowd the first goes into the deque, where other hands find it, and it is the next one's turn.
     pub fn wake_told(&mut self, words: &Words<N>)
+        requires { self.old.turning ≡ None }
+        ensures unsent { self.new.unsent ≡ self.old.unsent }
+        ensures begun { NoneBegan self.old.scheduler self.new.scheduler }
+        ensures ended { NoneEnded self.old.scheduler self.new.scheduler }
+    {
+        self.take_told(words);
+        if self.around.is_crowd() {
+            self.offer();
+            if self.turning.is_none() {
+                self.take_told(words);
+            }
+        }
+    }
+
+    /// Puts the process that it has out, if there is one, into its deque. Where it can't be put, it stays.
+    fn offer(&mut self)
+        ensures unsent { self.new.unsent ≡ self.old.unsent }
+        ensures begun { NoneBegan self.old.scheduler self.new.scheduler }
+        ensures ended { NoneEnded self.old.scheduler self.new.scheduler }
+    {
+        let Some(process) = self.turning.take() else {
+            return;
+        };
+        let back = put_again(&mut self.scheduler, &mut self.around, process);
+        put_into(&mut self.turning, back);
+    }
+
+    /// Gives its turn to a job that waits, or stands aside, and was told something, if it is one of those that are looked at now.
+    fn take_told(&mut self, words: &Words<N>)
         requires { self.old.turning ≡ None }
         ensures unsent { self.new.unsent ≡ self.old.unsent }
         ensures begun { NoneBegan self.old.scheduler self.new.scheduler }

@@ -12,6 +12,9 @@ use std::sync::Arc;
 use std::sync::atomic::{AtomicU64, Ordering};
 use std::time::Clock;
 
+/// So often a hand looks again before it sleeps, where there are others: for some 20 microseconds.
+const PATIENCE: u32 = 32;
+
 /// What the hands share: which supervisor rests where, by which they wake each other, and how far the run is.
 ///
 /// A hand writes down where a supervisor rests before it announces a sleep, and so before it looks for the last time; whoever sends a
@@ -146,6 +149,12 @@ impl<'a, C: Clock, W: Watch, J: Drop, S: Drop> Crew<'a, C, W, J, S> {
                 }
             }
         }
+    }
+
+    /// How often a hand that finds nothing looks again before it sleeps: another may have something for it in a moment, and a look costs
+    /// less than a sleep and a wake.
+    pub fn patience(&self) -> u32 {
+        if self.hands > 1 { PATIENCE } else { 0 }
     }
 
     /// Notes that a hand has something that others could take, or no longer, if that is new.

@@ -26,6 +26,7 @@ use otp_tree::{Hand, Report, RunFault, System, SystemFault, TablePlan};
 use otp_wake::{Post, Stop};
 use std::alloc::{AllocError, Global};
 use std::sync::{Arc, Mutex, Wait};
+use std::thread;
 use std::thread::Threads;
 use std::time::{Clock, Duration};
 
@@ -265,6 +266,7 @@ where
     // Where this is refused, which it isn't, jobs that ask for a waker at their start get none.
     let _opened = hand.open_post(&crew.post);
     let mut crowd = Crowd::new();
+    let mut vain: u32 = 0;
     for _ in rt.forever() {
         if crew.has_ended() || crew.keep_time() {
             return;
@@ -278,8 +280,14 @@ where
         mind_crowds(crew, hand);
         let is_busy = serve_some(rt, seat, system, hand, crowd.turns());
         collect_answers(rt, seat, system);
-        share(seat, &mut crowd, hand.stock());
-        if !is_busy {
+        share(seat, &mut crowd, hand, is_busy);
+        if is_busy {
+            vain = 0;
+        } else if vain < crew.patience() {
+            vain += 1;
+            thread::yield_now();
+        } else {
+            vain = 0;
             sleep(rt, seat, system, hand);
         }
     }
@@ -391,17 +399,27 @@ where
     }
 }
 
-/// Tells the others whether this hand, with so many processes in its deque after a batch of turns, has something for them, and wakes one
-/// where it has had it for long.
-fn share<C: Clock, W: Watch, J: Drop, S: Drop>(
+/// Notes a batch of turns of a hand. Where it has much to do for long, other hands may take of that, and one is woken for it.
+fn share<N, C, W, J, S>(
     seat: &Seat<'_, C, W, J, S>,
     crowd: &mut Crowd,
-    stock: u32,
-) {
+    hand: &mut Hand<N, J, S>,
+    is_busy: bool,
+)
+where
+    N: WordsNaming + InboxNaming + RunNaming,
+    C: Clock,
+    W: Watch,
+    J: Drop,
+    S: Drop,
+    ensures { standing_of hand.new ≡ standing_of hand.old }
+{
     let crew = seat.crew;
     let was_there = crowd.is_there();
-    crowd.note(stock, seat.take_news(), crew.clock.reading());
+    let (stock, news) = (hand.stock(), seat.take_news());
+    crowd.note(is_busy, stock, news, crew.clock.reading());
     crew.note_crowd(was_there, crowd.is_there());
+    hand.note_crowd(crowd.is_there());
     if crowd.wakes_another() {
         crew.wake_another(seat.hand);
     }

@@ -1,6 +1,7 @@
 //! A hand's place among the others.
 
 use crate::crew::Crew;
+use crate::crowd::News;
 use crate::watch::Watch;
 use otp_reason::Note;
 use otp_tree::Listener;
@@ -14,8 +15,9 @@ pub(crate) struct Seat<'a, C, W, J: Drop, S: Drop> {
     pub hand: usize,
     // Whether it served a supervisor since it was asked last.
     served: AtomicU64,
-    // How much was told of its turns since it was asked last.
-    news: AtomicU64,
+    // What was told of its turns since it was asked last.
+    steps: AtomicU64,
+    waits: AtomicU64,
 }
 
 impl<'a, C, W, J: Drop, S: Drop> Seat<'a, C, W, J, S> {
@@ -25,7 +27,8 @@ impl<'a, C, W, J: Drop, S: Drop> Seat<'a, C, W, J, S> {
             crew,
             hand,
             served: AtomicU64::new(0),
-            news: AtomicU64::new(0),
+            steps: AtomicU64::new(0),
+            waits: AtomicU64::new(0),
         }
     }
 
@@ -34,39 +37,44 @@ impl<'a, C, W, J: Drop, S: Drop> Seat<'a, C, W, J, S> {
         self.served.load(Ordering::Relaxed) != 0 && self.served.swap(0, Ordering::Relaxed) != 0
     }
 
-    /// How much was told of its turns since it was asked last: letters sent, supervisors served, and who began to wait. Nothing is told
-    /// of a turn of a job that goes on.
-    pub fn take_news(&self) -> u64 {
-        let news = self.news.load(Ordering::Relaxed);
-        self.news.store(0, Ordering::Relaxed);
-        news
+    /// What was told of its turns since it was asked last.
+    pub fn take_news(&self) -> News {
+        News {
+            steps: take(&self.steps),
+            waits: take(&self.waits),
+        }
     }
+}
 
-    // The hand's thread alone counts, so no sum is lost.
-    fn note_news(&self) {
-        let news = self.news.load(Ordering::Relaxed);
-        self.news.store(news.saturating_add(1), Ordering::Relaxed);
-    }
+// The hand's thread alone counts, so no sum is lost.
+fn count(counted: &AtomicU64) {
+    let so_far = counted.load(Ordering::Relaxed);
+    counted.store(so_far.saturating_add(1), Ordering::Relaxed);
+}
+
+fn take(counted: &AtomicU64) -> u64 {
+    let so_far = counted.load(Ordering::Relaxed);
+    counted.store(0, Ordering::Relaxed);
+    so_far
 }
 
 impl<C: Clock, W: Watch, J: Drop, S: Drop> Listener for Seat<'_, C, W, J, S> {
     fn sent(&self, table: usize, note: Note) {
-        self.note_news();
+        count(&self.steps);
         self.crew.sent(self.hand, table, note);
     }
 
     fn served(&self, table: usize) {
-        self.note_news();
+        count(&self.steps);
         self.served.store(1, Ordering::Relaxed);
         self.crew.is_up(table);
     }
 
     fn rests(&self, table: usize, _parent: usize) {
-        self.note_news();
         self.crew.rests(self.hand, table);
     }
 
     fn waits(&self, _parent: usize) {
-        self.note_news();
+        count(&self.waits);
     }
 }
