@@ -284,7 +284,7 @@ where
         if is_busy {
             vain = 0;
         } else if vain < crew.patience() {
-            vain += 1;
+            vain = vain.saturating_add(1);
             thread::yield_now();
         } else {
             vain = 0;
