@@ -11,7 +11,7 @@ const MANY: u32 = 4;
 const PATIENCE: u32 = 3;
 
 /// What was told of some turns of a hand. Nothing is told of a turn of a job that goes on.
-#[derive(Clone, Copy, Debug, PartialEq, Eq)]
+#[derive(Clone, Copy)]
 pub(crate) struct News {
     /// Letters sent, and turns of supervisors: steps of starts and stops.
     pub steps: u64,
