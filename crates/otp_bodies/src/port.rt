@@ -87,6 +87,10 @@ pub trait Port<B: Drop> {
         ensures counted { OnOk result (refusals self.new ≡ refusals self.old) }
         ensures processes { processes self.new ≡ processes self.old }
         ensures beside { beside self.new ≡ beside self.old };
+
+    /// Hears that a shutdown or a kill was posted to this slot. Whoever lets threads sleep wakes by it the one in which the process of
+    /// the slot waits. It needn't be written: by default nothing is done.
+    fn posted(&self, _slot: usize) {}
 }
 
 /// A port that keeps what it takes, for whoever drives supervisors by hand. It refuses where memory is refused.

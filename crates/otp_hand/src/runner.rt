@@ -151,6 +151,11 @@ impl<N: WordsNaming + RunNaming, J: Drop, S: Drop> Port<Body<J, S>> for Runner<N
         self.refusals.raise();
         Err(note)
     }
+
+    /// A signal wakes the process for which it was posted, as a waker does.
+    fn posted(&self, slot: usize) {
+        self.around.wake(slot);
+    }
 }
 
 /// The number of the supervisor that runs in the process that is out: its children's notes go to it.
@@ -256,8 +261,38 @@ impl<N: WordsNaming + RunNaming, J: Drop, S: Drop> Runner<N, J, S> {
         put_into(&mut self.turning, Some(rested.process));
     }
 
-    /// Gives its turn to a job that waits, or stands aside, and was told something, if it is one of those that are looked at now.
+    /// Gives its turn to a job that waits, or stands aside, and was told something, if it is one of those that are looked at now. In a
+    /// crowd the first goes into the deque, where other hands find it, and it is the next one's turn.
     pub fn wake_told(&mut self, words: &Words<N>)
+        requires { self.old.turning ≡ None }
+        ensures unsent { self.new.unsent ≡ self.old.unsent }
+        ensures begun { NoneBegan self.old.scheduler self.new.scheduler }
+        ensures ended { NoneEnded self.old.scheduler self.new.scheduler }
+    {
+        self.take_told(words);
+        if self.around.is_crowd() {
+            self.offer();
+            if self.turning.is_none() {
+                self.take_told(words);
+            }
+        }
+    }
+
+    /// Puts the process that it has out, if there is one, into its deque. Where it can't be put, it stays.
+    fn offer(&mut self)
+        ensures unsent { self.new.unsent ≡ self.old.unsent }
+        ensures begun { NoneBegan self.old.scheduler self.new.scheduler }
+        ensures ended { NoneEnded self.old.scheduler self.new.scheduler }
+    {
+        let Some(process) = self.turning.take() else {
+            return;
+        };
+        let back = put_again(&mut self.scheduler, &mut self.around, process);
+        put_into(&mut self.turning, back);
+    }
+
+    /// Gives its turn to a job that waits, or stands aside, and was told something, if it is one of those that are looked at now.
+    fn take_told(&mut self, words: &Words<N>)
         requires { self.old.turning ≡ None }
         ensures unsent { self.new.unsent ≡ self.old.unsent }
         ensures begun { NoneBegan self.old.scheduler self.new.scheduler }
@@ -327,6 +362,10 @@ impl<N: WordsNaming + RunNaming, J: Drop, S: Drop> Runner<N, J, S> {
         let Some(process) = self.turning.take() else {
             return;
         };
+        // Whoever posts a signal for it from now on finds this hand. One that was posted in its turn is found by this hand's look.
+        let _unwoken = self
+            .around
+            .begins_to_wait(process.slot(), self.scheduler.index());
         let rested = Rested {
             process,
             table,

@@ -31,6 +31,7 @@ pub mod caller;
 pub mod calls;
 pub mod clock;
 mod crew;
+mod crowd;
 mod live;
 mod locked;
 pub mod log;

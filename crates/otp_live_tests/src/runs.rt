@@ -56,25 +56,34 @@ fn stop_after(shared: &Shared, starts: u64) {
     shared.stop.raise();
 }
 
-// A tree that another thread stops while all its threads may sleep.
-fn stop_beside<R: Threads + Wait + Clock + Abort + Sync>(rt: &R, alloc: Global, hands: usize) {
+// A tree of four such jobs in each supervisor, which another thread stops while all its threads may sleep.
+fn stop_beside<R: Threads + Wait + Clock + Abort + Sync>(
+    rt: &R,
+    alloc: Global,
+    kinds: &[Kind; 4],
+    hands: usize,
+) {
     let shared = Shared::new(rt, alloc);
-    let kinds = [Kind::Steady, Kind::Steady];
     let (seen, ()) = thread::join(
         rt,
-        || lives(rt, alloc, &kinds, &kinds, &shared, 1, hands),
-        || stop_after(&shared, 4),
+        || lives(rt, alloc, kinds, kinds, &shared, 1, hands),
+        || stop_after(&shared, 8),
     );
     drop(shared);
     all_ended(rt, seen);
-    same(rt, "the processes that began", seen.begun, 6);
+    same(rt, "the processes that began", seen.begun, 10);
 }
 
+// Beside busy jobs the steady ones begin in several hands, and are stopped there. They have all the time of the world: were one signal
+// not heard in another hand, the stop would wait for ever.
 #[test]
 fn another_thread_stops_a_tree(rt: HostRuntime) {
+    let steady = [Kind::Steady; 4];
+    let mixed = [Kind::Busy, Kind::Steady, Kind::Busy, Kind::Steady];
     for _ in 0..20 {
-        stop_beside(&rt, rt.alloc(), 1);
-        stop_beside(&rt, rt.alloc(), 3);
+        stop_beside(&rt, rt.alloc(), &steady, 1);
+        stop_beside(&rt, rt.alloc(), &steady, 3);
+        stop_beside(&rt, rt.alloc(), &mixed, 3);
     }
 }
 

@@ -91,8 +91,8 @@ impl<N: WordsNaming> Office<N> {
         }
     }
 
-    /// Sends the first order: posts what it says, and puts the process with this body, which a start must have, or tells
-    /// the parent. What comes back is the body, but for a process that the port took with it.
+    /// Sends the first order: posts what it says, of which the port hears; and puts the process with this body, which a start must
+    /// have, or tells the parent. What comes back is the body, but for a process that the port took with it.
     pub fn flush_one<B: Drop, P: Port<B>>(
         &mut self,
         words: &Words<N>,
@@ -128,12 +128,14 @@ impl<N: WordsNaming> Office<N> {
                 (Flushed::Sent, None)
             }
             Sending::Ask(number) => {
-                self.post(words, number, Signal::Shutdown);
+                let slot = self.post(words, number, Signal::Shutdown);
+                port.posted(slot);
                 self.advance();
                 (Flushed::Sent, body)
             }
             Sending::Kill(number) => {
-                self.post(words, number, Signal::Kill);
+                let slot = self.post(words, number, Signal::Kill);
+                port.posted(slot);
                 self.advance();
                 (Flushed::Sent, body)
             }

@@ -6,8 +6,8 @@ use otp_job::Ticket;
 /// What is told of the turns of a hand while it makes them, in the hand's own thread and with no lock held. No method needs to be
 /// written: each does nothing by default.
 ///
-/// Whoever lets hands sleep wakes one by it: a supervisor that waits in a hand has its next turn in that hand alone, and so has a
-/// job that waits.
+/// Whoever lets hands sleep wakes one by it for a letter: a supervisor that waits in a hand has its next turn in that hand alone, and so
+/// has a job that waits. For a signal the hand that posts it wakes the one in which that child waits ([`Hand::open_post`](crate::Hand)).
 pub trait Listener {
     /// A letter has gone, which tells that this happened to the process with this ticket. It went to the supervisor whose number the
     /// ticket has, or to whoever opened the tree, who has the number behind the last.
