@@ -63,11 +63,12 @@ AreInOrder all tables = AllAt (λ k (t : TableReport). EachInOrder (map items_in
 abbrev pub IsLastInOrder : ℕ → List (List (SenderState Message)) → Option (TakerState Message) → List Item → Type 0
 IsLastInOrder tables all waiter last = MatchOption waiter ⊥ (λ (w : TakerState Message). EachInOrder (map items_in (lists_to tables all)) (items_in w.taken ++ last))
 
--- its office, as its last turn left it, kept the rules: the first orders of its history were sent, in their order, and the others
--- were still to be sent. So many of those start a child; an event starts one at most
+-- its office, as its last turn left it, kept the rules: the first orders of its history were sent, in their order, and what it posted
+-- are the words of these. The others, so many, were still to be sent. So many of those start a child; an event starts one at most
 pub record HasUnsent (t : TableReport) : Type 0 where
   pub office : OfficeView
   pub keeps : KeepsOffice office
   pub core : t.core ≡ office.core
+  pub orders : t.unsent_orders ≡ length office.outbox
   pub starts : t.unsent ≡ length (starts_in office.outbox)
   pub few : t.unsent ≤ 1

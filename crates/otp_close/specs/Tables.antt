@@ -39,7 +39,9 @@ pub record IsOfTable (plans : ℕ → Supervisor) (inbox : ℕ) (sent : List Mes
   -- the core is its own, and so are the ends that it was told
   pub core : t.core ≡ table.office.core
   pub ends : t.ends_told.items ≡ table.ends_told
-  -- so many starts are among the orders that it had still to send
+  -- so many orders it had still to send
+  pub unsent_orders : t.unsent_orders ≡ length table.office.outbox
+  -- and so many starts are among them
   pub unsent : t.unsent ≡ length (starts_in table.office.outbox)
   -- what was sent to it is what it took, in its order, and what it left
   pub left : IsLeft sent table.taker.taken t.left.items

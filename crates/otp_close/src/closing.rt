@@ -139,7 +139,8 @@ pub fn close<N: WordsNaming + InboxNaming + PlanNaming + RunNaming, J: Drop, S: 
     ensures order { IfSome (report_in result) (λ report. AreInOrder (all_senders client hands.items) report.tables.items) }
     ensures last_order { IfSome (report_in result) (λ report. IsLastInOrder shared.tables (all_senders client hands.items) client.waiter report.last.items) }
     ensures last { IfSome (report_in result) (λ report. IsLast shared.tables (all_senders client hands.items) client.waiter report.last.items) }
-    // The first orders of each history were sent, in their order, and the others were still to be sent; one start at most is there.
+    // The first orders of each history were sent, in their order, and the words of these posted; the others, so many as the report
+    // says, were still to be sent. One start at most is among them.
     ensures unsent { IfSome (report_in result) (λ report. All HasUnsent report.tables.items) }
     // Each report is that of the supervisor with its place's inbox, which kept the rules. What it took and left is what was sent to
     // it; and for each start that it sent, each event and each time that it found its inbox empty a sender was credited.
@@ -333,20 +334,24 @@ fn take_apart<N: WordsNaming + InboxNaming + PlanNaming, B: Drop, R: Wait>(
     ensures gained { AllIn (numbers_of result.core.history) owner.new.drawn }
 {
     sup.keeps_rules();
+    let unsent_orders = sup.unsent_orders();
     let unsent = sup.unsent_starts();
     let SupParts {
         inbox,
         core,
         owner: seat,
         taker,
+        counts,
         ends_told,
     } = sup.into_parts();
+    drop(counts);
     words.join(owner, seat);
     let left = settle(rt, &inbox, taker, sender, room);
     TableReport {
         core,
         ends_told,
         left,
+        unsent_orders,
         unsent,
     }
 }

@@ -1,7 +1,8 @@
 -- What an office keeps from event to event.
-use Rattle.std.proofs.Common.{◌≡◌, ℕ, zero, suc, ◌+◌, ◌≤◌, ◌++◌, List, [], ◌∷◌, Option, None, Some, not, append-nil, append_assoc, refl, ap, sym, ◌∙◌, subst, arith, length, take, drop, length-append, length-drop}
-use Rattle.std.specs.List.{All, Contains, filter_map}
-use Rattle.std.proofs.lemmas.List.Elements.{filter-append, filter_map-append, Contains-append_left}
+use Rattle.std.proofs.Common.{◌≡◌, ℕ, ◌+◌, ◌≤◌, ◌++◌, List, [], ◌∷◌, Option, None, Some, not, append-nil, append_assoc, refl, ap, sym, ◌∙◌, subst, arith, length, take, drop, length-append, length-drop}
+use Rattle.std.specs.List.{Contains}
+use Rattle.std.proofs.lemmas.List.{take-append-le}
+use Rattle.std.proofs.lemmas.List.Elements.{filter-append, filter_map-append}
 use Rattle.std.proofs.Math.Seq.{drop-append_seam}
 use Rattle.otp_rules.specs.declared.event.Effect.{Effect}
 use Rattle.otp_rules.specs.declared.event.Event.{Event}
@@ -17,8 +18,10 @@ use Rattle.otp_rules.specs.declared.event.Item.{Item}
 use Rattle.otp_rules.specs.declared.event.Kind.{Kind}
 use Rattle.otp_rules.specs.declared.event.Kind.TheVariants as kind
 use Rattle.otp_office.specs.Events.{item_of, items_of, Readied, Happened, drawn_by}
-use Rattle.otp_office.specs.Offices.{OfficeView, IsOffice, Begins}
-use Rattle.otp_office.specs.Orders.{orders_in, orders_along, word_ordered, IsOrdered}
+use Rattle.otp_office.specs.Offices.{OfficeView, IsOffice, Begins, sent_of}
+use Rattle.otp_office.specs.Orders.{orders_in, orders_along}
+use Rattle.otp_office.specs.Posts.{ArePosts, words_in}
+use Rattle.otp_office.proofs.Posting.{none_left, posted_same}
 use Rattle.otp_office.proofs.Readying.{readied_base, readied_history}
 
 -- the orders of one event more
@@ -27,20 +30,6 @@ orders_on s [] e = append-nil (step s e).orders
 orders_on s (x ∷ xs) e =
     ap (λ (l : List Effect). (step s x).orders ++ l) (orders_on (step s x).state xs e)
     ∙ sym (append_assoc (step s x).orders (orders_of (step s x).state xs) (step (state_after (step s x).state xs) e).orders)
-
--- a beginning of a list, and a longer beginning of a longer list
-longer : (i j : ℕ) (xs more : List Effect) → i ≤ j → (rest : List Effect) × (take j (xs ++ more) ≡ take i xs ++ rest)
-longer zero j xs more le = (take j (xs ++ more), refl)
-longer (suc i) zero xs more le = absurd (omega arith)
-longer (suc i) (suc j) [] more le = (take (suc j) more, refl)
-longer (suc i) (suc j) (x ∷ xs) more le = let r = longer i j xs more (omega arith) in (r.0, ap (λ (l : List Effect). x ∷ l) r.1)
-
-pub ordered_longer : (i j : ℕ) (xs more : List Effect) (w : ℕ) → i ≤ j → IsOrdered (take i xs) w → IsOrdered (take j (xs ++ more)) w
-ordered_longer i j xs more w le h =
-    let r = longer i j xs more le in
-    let Has : List Effect → Type 0 = λ l. Contains (filter_map word_ordered l) w in
-    let HasWord : List ℕ → Type 0 = λ l. Contains l w in
-    subst Has (sym r.1) (subst HasWord (sym (filter_map-append word_ordered (take i xs) r.0)) (Contains-append_left (filter_map word_ordered (take i xs)) (filter_map word_ordered r.0) w h))
 
 -- all orders, with those of one event more
 pub along_on : (core next : View) (e : Event) → next.base ≡ core.base → next.history ≡ core.history ++ e ∷ []
@@ -59,9 +48,8 @@ along_same core next base history =
 pub readied : (old new : OfficeView) → Readied old new → IsOffice old → IsOffice new
 readied old new r i =
     let all : orders_along new.core ≡ orders_along old.core = along_same old.core new.core (readied_base old new r) (readied_history old new r) in
-    let Ordered : List Effect → Type 0 = λ l. All (λ (post : ℕ × ℕ). IsOrdered (take (old.sent + 1) l) post.1) old.owner.posts in
-    let Counted : ℕ → Type 0 = λ n. All (λ (post : ℕ × ℕ). IsOrdered (take (n + 1) (orders_along new.core)) post.1) old.owner.posts in
-    let Posted : Holding → Type 0 = λ h. All (λ (post : ℕ × ℕ). IsOrdered (take (new.sent + 1) (orders_along new.core)) post.1) h.posts in
+    let sent : sent_of new ≡ sent_of old = ap (λ n. take n (orders_along new.core)) r.sent ∙ ap (λ (l : List Effect). take old.sent l) all in
+    let Next : List Effect → Type 0 = λ l. ArePosts (sent_of new) l (words_in new.owner.posts) in
     let Slots : Holding → Type 0 = λ h. EachBetween new.first_slot (new.first_slot + 256) (Contains h.slots) in
     let From : ℕ → Type 0 = λ n. EachBetween n (n + 256) (Contains old.owner.slots) in
     record {
@@ -69,7 +57,7 @@ readied old new r i =
       numbers = ap (λ (h : Holding). h.drawn) r.owner ∙ i.numbers ∙ ap numbers_of (sym (readied_history old new r));
       orders = r.outbox ∙ i.orders ∙ ap (λ n. drop n (orders_along old.core)) (sym r.sent) ∙ ap (λ (l : List Effect). drop new.sent l) (sym all);
       counted = let c = i.counted in let s = r.sent in let l = ap (λ (x : List Effect). length x) all in omega arith;
-      posts = subst Posted (sym r.owner) (subst Counted (sym r.sent) (subst Ordered (sym all) i.posts));
+      posts = subst Next (sym r.outbox) (posted_same old new old.outbox sent (ap (λ (h : Holding). h.posts) r.owner) i.posts);
       slots = subst Slots (sym r.owner) (subst From (sym r.first_slot) i.slots);
       fits = let f = i.fits in let e = r.first_slot in omega arith;
     }
@@ -109,8 +97,7 @@ happened old new e empty base history outbox sent none some posts slots first i 
     let whole : old.sent ≡ length (orders_along old.core) = empty_from old.sent (orders_along old.core) (sym empty ∙ i.orders) i.counted in
     let len = ap (λ (x : List Effect). length x) all in
     let sum = length-append (orders_along old.core) fresh in
-    let Posted : List (ℕ × ℕ) → Type 0 = λ ps. All (λ (post : ℕ × ℕ). IsOrdered (take (new.sent + 1) (orders_along new.core)) post.1) ps in
-    let OrderedBy : (w : ℕ) → List Effect → Type 0 = λ w l. IsOrdered (take (new.sent + 1) l) w in
+    let sent_same : sent_of new ≡ sent_of old = ap (λ n. take n (orders_along new.core)) sent ∙ ap (λ (l : List Effect). take old.sent l) all ∙ take-append-le old.sent (orders_along old.core) fresh i.counted in
     let Slots : List ℕ → Type 0 = λ ss. EachBetween new.first_slot (new.first_slot + 256) (Contains ss) in
     let From : ℕ → Type 0 = λ n. EachBetween n (n + 256) (Contains old.owner.slots) in
     record {
@@ -118,7 +105,7 @@ happened old new e empty base history outbox sent none some posts slots first i 
       numbers = drawn_on old.owner.drawn new.owner.drawn old.core.history new.core.history e.reading e.number e.kind i.numbers history none some;
       orders = outbox ∙ sym (drop-append_seam (orders_along old.core) fresh) ∙ ap (λ n. drop n (orders_along old.core ++ fresh)) (sym (sent ∙ whole)) ∙ ap (λ (l : List Effect). drop new.sent l) (sym all);
       counted = omega arith;
-      posts = subst Posted (sym posts) (λ k d b. subst (OrderedBy _) (sym all) (ordered_longer (old.sent + 1) (new.sent + 1) (orders_along old.core) fresh _ (omega arith) (i.posts k d b)));
+      posts = posted_same old new new.outbox sent_same posts (none_left (sent_of old) old.outbox new.outbox (words_in old.owner.posts) empty i.posts);
       slots = subst Slots (sym slots) (subst From (sym first) i.slots);
       fits = let f = i.fits in omega arith;
     }

@@ -3,6 +3,7 @@ pub mod Keeps
 pub mod Sends
 pub mod Evident
 pub mod More
+pub mod Posting
 pub mod Putting
 pub mod Sent
 pub mod Shared

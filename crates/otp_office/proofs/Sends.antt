@@ -1,9 +1,8 @@
 -- The orders that are sent, one by one.
-use Rattle.std.proofs.Common.{◌≡◌, ℕ, zero, suc, ◌+◌, ◌<◌, ◌≤◌, ◌++◌, List, [], ◌∷◌, Option, None, Some, Bool, true, false, cond, not, append-nil, refl, ap, sym, ◌∙◌, subst, arith, rules, length, take, drop, get_or, add-one, length-drop, drop-cons}
+use Rattle.std.proofs.Common.{◌≡◌, ℕ, zero, suc, ◌+◌, ◌<◌, ◌≤◌, ◌++◌, List, [], ◌∷◌, Option, None, Some, Bool, true, false, cond, not, refl, ap, sym, ◌∙◌, subst, arith, rules, length, drop, get_or, add-one, length-drop, drop-cons}
 use Rattle.std.specs.Prelude.{slice_get, MatchOption}
 use Rattle.otp_rules.specs.declared.event.Effect.TheVariants as effect
-use Rattle.std.specs.List.{All, Contains, filter, filter_map}
-use Rattle.std.proofs.lemmas.List.Elements.{filter_map-append, Contains-push, All-push}
+use Rattle.std.specs.List.{All, Contains, filter}
 use Rattle.std.proofs.lemmas.List.Sums.{sum_by-append, sum_by-cons}
 use Rattle.std.proofs.lemmas.Option.{slice_get_within, get_or_from_slice_get}
 use Rattle.otp_rules.specs.declared.event.Effect.{Effect}
@@ -16,14 +15,15 @@ use Rattle.otp_rules.specs.Run.{orders_of}
 use Rattle.otp_signals.specs.declared.signal.Signal.{Signal}
 use Rattle.otp_signals.specs.Signals.{word_of}
 use Rattle.otp_signals.specs.Holdings.{after_post}
-use Rattle.otp_office.specs.Offices.{OfficeView, IsOffice}
-use Rattle.otp_office.specs.Orders.{orders_in, orders_along, post_of, word_posted, word_ordered, IsOrdered, has_some}
+use Rattle.otp_office.specs.Offices.{OfficeView, IsOffice, words_with_first}
+use Rattle.otp_office.specs.Orders.{orders_in, orders_along, post_of, has_some}
 use Rattle.otp_office.specs.Flushes.{Posts, Posted, IsPosted, IsFirst, IsSent, SentFirst, sending_of}
 use Rattle.otp_bodies.specs.Letters.{one_if}
 use Rattle.otp_bodies.specs.declared.port.Launched.{Launched}
 use Rattle.otp_bodies.specs.Ports.{Taken, carried}
 use Rattle.otp_office.specs.declared.orders.Sending.{Sending}
-use Rattle.otp_office.proofs.Keeps.{ordered_longer}
+use Rattle.otp_office.specs.Posts.{WerePosted, words_in}
+use Rattle.otp_office.proofs.Posting.{left_first, tried_first}
 
 -- an order stands first where it stands
 pub at_order : (xs : List Effect) (i : ℕ) (x : Effect) → slice_get xs i ≡ Some x → is_reply x ≡ false → orders_in (drop i xs) ≡ x ∷ orders_in (drop (i + 1) xs)
@@ -81,18 +81,17 @@ some_long [] e = absurd (search (rules, e))
 some_long (x ∷ xs) e = omega arith
 
 -- the first order was sent
-pub advanced : (o : OfficeView) → has_some o.outbox ≡ true → IsOffice o → IsOffice (record o { outbox = drop 1 o.outbox; sent = o.sent + 1 })
-advanced o some i =
+pub advanced : (o : OfficeView) → has_some o.outbox ≡ true → WerePosted (words_with_first o) (words_in o.owner.posts) → IsOffice o → IsOffice (record o { outbox = drop 1 o.outbox; sent = o.sent + 1 })
+advanced o some were i =
     let all : List Effect = orders_along o.core in
     let more : 0 < length (drop o.sent all) = subst (λ (l : List Effect). 0 < length l) i.orders (some_long o.outbox some) in
     let left = length-drop o.sent all in
-    let Ordered : (w : ℕ) → List Effect → Type 0 = λ w l. IsOrdered (take (o.sent + 1 + 1) l) w in
     record {
       begins = i.begins;
       numbers = i.numbers;
       orders = ap (λ (l : List Effect). drop 1 l) i.orders ∙ drop_one o.sent all ∙ ap (λ n. drop n all) (sym (add-one o.sent));
       counted = omega arith;
-      posts = λ k d b. subst (Ordered _) (append-nil all) (ordered_longer (o.sent + 1) (o.sent + 1 + 1) all [] _ (omega arith) (i.posts k d b));
+      posts = left_first o (drop 1 o.outbox) were;
       slots = i.slots;
       fits = i.fits;
     }
@@ -112,11 +111,6 @@ module _ (P : Effect → Type 0) where
   all_filter test (x ∷ xs) h =
       let rest : All P (filter test xs) = all_filter test xs (λ k d b. h (suc k) d (omega arith)) in
       elim (test x) as (λ b. All P (cond b (x ∷ filter test xs) (filter test xs))) [ true ↦ all_cons x (filter test xs) (h 0 x (omega arith)) rest | false ↦ rest ]
-
-take_next : (n : ℕ) (l : List Effect) (x : Effect) (rest : List Effect) → drop n l ≡ x ∷ rest → take (suc n) l ≡ take n l ++ x ∷ []
-take_next zero l x rest e = ap (λ (y : List Effect). take 1 y) e
-take_next (suc n) [] x rest e = absurd (search (rules, e))
-take_next (suc n) (y ∷ ys) x rest e = ap (λ (l : List Effect). y ∷ l) (take_next n ys x rest e)
 
 abbrev number_in : Option (ℕ × Signal) → Option ℕ
 number_in None = None
@@ -147,25 +141,15 @@ known_number o number told p law lawful i =
 
 -- the word of the first order was posted
 pub posted : (o : OfficeView) (number slot : ℕ) (told : Signal) → Posts o number told → IsOffice o → IsOffice (record o { owner = after_post slot (word_of number told) o.owner })
-posted o number slot told p i =
-    let all : List Effect = orders_along o.core in
-    let w : ℕ = word_of number told in
-    let next : take (suc o.sent) all ≡ take o.sent all ++ p.order ∷ [] = take_next o.sent all p.order p.rest (sym i.orders ∙ p.outbox) in
-    let word : filter_map word_ordered (p.order ∷ []) ≡ w ∷ [] = ap (λ (q : Option ℕ). filter_map (λ (u : Unit {0}). q) (tt ∷ [])) (ap word_posted p.post) in
-    let words : filter_map word_ordered (take (o.sent + 1) all) ≡ filter_map word_ordered (take o.sent all) ++ w ∷ [] =
-    ap (λ n. filter_map word_ordered (take n all)) (add-one o.sent) ∙ ap (filter_map word_ordered) next
-    ∙ filter_map-append word_ordered (take o.sent all) (p.order ∷ []) ∙ ap (λ (l : List ℕ). filter_map word_ordered (take o.sent all) ++ l) word in
-    let Has : List ℕ → Type 0 = λ l. Contains l w in
-    let this : IsOrdered (take (o.sent + 1) all) w = subst Has (sym words) (Contains-push (filter_map word_ordered (take o.sent all)) w) in
-    record {
-      begins = i.begins;
-      numbers = i.numbers;
-      orders = i.orders;
-      counted = i.counted;
-      posts = All-push (λ (post : ℕ × ℕ). IsOrdered (take (o.sent + 1) all) post.1) o.owner.posts (slot, w) i.posts this;
-      slots = i.slots;
-      fits = i.fits;
-    }
+posted o number slot told p i = record {
+  begins = i.begins;
+  numbers = i.numbers;
+  orders = i.orders;
+  counted = i.counted;
+  posts = tried_first o number slot told p i.posts;
+  slots = i.slots;
+  fits = i.fits;
+}
 
 -- there is something at a place within
 pub some_at : (xs : List Effect) (i : ℕ) → i < length xs → (x : Effect) × (slice_get xs i ≡ Some x)

@@ -1,5 +1,6 @@
 pub mod Rows
 pub mod Orders
+pub mod Posts
 pub mod Offices
 pub mod Answers
 pub mod Cuts

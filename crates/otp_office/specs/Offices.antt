@@ -1,5 +1,5 @@
 -- What an office stands for, and what it keeps.
-use Rattle.std.specs.Prelude.{◌≡◌, ◌↔◌, ℕ, ◌+◌, ◌<◌, ◌≤◌, true, List, [], ◌++◌, Option, length, take, drop, All, Contains, ◌^◌}
+use Rattle.std.specs.Prelude.{◌≡◌, ◌↔◌, ℕ, ◌+◌, ◌<◌, ◌≤◌, true, List, [], ◌++◌, Option, length, take, drop, Contains, ◌^◌}
 use Rattle.otp_spec.specs.declared.limits.TheConstants.{MAX_CHILDREN}
 use Rattle.otp_spec.specs.declared.child.ChildSpec.{ChildSpec}
 use Rattle.otp_spec.specs.declared.flags.SupFlags.{SupFlags}
@@ -14,7 +14,8 @@ use Rattle.otp_table.specs.Rows.{has_process}
 use Rattle.otp_core.specs.View.{View, new_core, state_of}
 use Rattle.otp_signals.specs.declared.view.Holding.{Holding}
 use Rattle.otp_signals.specs.Lists.{EachBetween}
-use Rattle.otp_office.specs.Orders.{starting_slot, IsOrdered, orders_along, starts_in}
+use Rattle.otp_office.specs.Orders.{starting_slot, orders_along, starts_in}
+use Rattle.otp_office.specs.Posts.{ArePosts, words_in, words_ordered}
 
 -- what contracts see of an office
 pub record OfficeView : Type 0 where
@@ -30,6 +31,14 @@ pub record OfficeView : Type 0 where
 abbrev pub sent_of : OfficeView → List Effect
 sent_of o = take o.sent (orders_along o.core)
 
+-- what an office posted are the words of the orders that it sent, and tries of the first that is to be sent
+abbrev pub HasPosted : OfficeView → Type 0
+HasPosted o = ArePosts (sent_of o) o.outbox (words_in o.owner.posts)
+
+-- the words of the orders that were sent and of the first that is to be sent
+abbrev pub words_with_first : OfficeView → List ℕ
+words_with_first o = words_ordered (take (o.sent + 1) (orders_along o.core))
+
 -- the state that was never opened, for some flags and specifications
 pub record Begins (base : State) : Type 0 where
   pub flags : SupFlags
@@ -44,8 +53,8 @@ pub record IsOffice (o : OfficeView) : Type 0 where
   -- behind the orders of its history that were sent come those to be sent
   pub orders : o.outbox ≡ drop o.sent (orders_along o.core)
   pub counted : o.sent ≤ length (orders_along o.core)
-  -- each post is that of a sent order, or of the first in the outbox
-  pub posts : All (λ post. IsOrdered (take (o.sent + 1) (orders_along o.core)) post.1) o.owner.posts
+  -- each order that was sent posted its word, and nothing else was posted but tries of the first in the outbox
+  pub posts : HasPosted o
   pub slots : EachBetween o.first_slot (o.first_slot + MAX_CHILDREN) (Contains o.owner.slots)
   pub fits : o.first_slot + MAX_CHILDREN < 2 ^ 64
 
@@ -84,8 +93,8 @@ pub record KeepsOffice (o : OfficeView) : Type 0 where
   pub orders : sent_of o ++ o.outbox ≡ orders_along o.core
   -- the starts among those are of the processes that its history numbers
   pub starts : starts_in (orders_along o.core) ≡ numbers_of o.core.history
-  -- each post is that of an order that was sent, or of the first that is to be sent
-  pub posts : All (λ post. IsOrdered (take (o.sent + 1) (orders_along o.core)) post.1) o.owner.posts
+  -- what its seat posted: the words of the orders that were sent, in their order, and then tries of the first that is to be sent
+  pub posts : HasPosted o
   -- no period has more restarts than the intensity, but for the last one of a supervisor that ends by it
   pub rate : IsRated (state_of o.core)
   -- no two children have one slot, and each has one of those that there are

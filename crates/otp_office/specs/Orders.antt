@@ -1,5 +1,5 @@
 -- The orders among effects: what they post, and which processes they start.
-use Rattle.std.specs.Prelude.{ℕ, Bool, true, false, not, List, [], ◌∷◌, Option, Some, None, filter_map, Contains}
+use Rattle.std.specs.Prelude.{ℕ, Bool, true, false, not, List, [], ◌∷◌, Option, Some, None, filter_map}
 use Rattle.std.specs.List.{filter}
 use Rattle.otp_table.specs.declared.row.Row.{Row}
 use Rattle.otp_rules.specs.declared.event.Effect.{Effect}
@@ -57,10 +57,6 @@ word_posted (Some p) = Some (word_of p.0 p.1)
 
 abbrev pub word_ordered : Effect → Option ℕ
 word_ordered e = word_posted (post_of e)
-
--- a word that one of these orders posts
-abbrev pub IsOrdered : List Effect → ℕ → Type 0
-IsOrdered orders word = Contains (filter_map word_ordered orders) word
 
 -- something is among these
 abbrev pub has_some : {X : Type 0} → List X → Bool

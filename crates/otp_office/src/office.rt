@@ -17,7 +17,7 @@ ghost use Rattle.otp_bodies.specs.Slots.{AreBelow};
 ghost use Rattle.otp_office.specs.declared.turns.TurnFault.TheVariants as fault;
 
 use crate::draws::step_drawing;
-use crate::orders::{count_starts, first_order};
+use crate::orders::{count_orders, count_starts, first_order};
 use crate::turns::{TurnAnswer, TurnFault};
 use otp_core::{Core, CutFault, ReplyAnswer};
 use otp_rules::{CountsNow, Kind, Phase, Reply, laws};
@@ -191,6 +191,13 @@ impl<N: WordsNaming> Office<N> {
         ensures few { AreFew result }
     {
         self.core.counts()
+    }
+
+    /// How many orders are still to be sent.
+    pub fn unsent_orders(&self) -> u64
+        ensures { result ≡ length self.now.outbox }
+    {
+        count_orders(self.core.effects(), self.next)
     }
 
     /// How many of the orders that are still to be sent start a child.

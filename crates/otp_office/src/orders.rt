@@ -95,6 +95,30 @@ fn count_start(effect: &Effect) -> u64
     }
 }
 
+/// How many orders this effect is: a reply is none.
+fn count_order(effect: &Effect) -> u64
+    ensures value { result ≡ length (orders_in (effect.now ∷ [])) }
+    ensures few { result ≤ 1 }
+{
+    match effect {
+        Effect::Reply(_) => 0,
+        _ => 1,
+    }
+}
+
+/// How many orders are among the effects from here on.
+pub(crate) fn count_orders(effects: &[Effect], from: usize) -> u64
+    ensures { result ≡ length (orders_in (drop from effects.now)) }
+{
+    let mut orders: u64 = 0;
+    let mut place = from;
+    while place < effects.len() {
+        orders += count_order(&effects[place]);
+        place += 1;
+    }
+    orders
+}
+
 /// How many children the effects from here on start.
 pub(crate) fn count_starts(effects: &[Effect], from: usize) -> u64
     ensures { result ≡ length (starts_in (orders_in (drop from effects.now))) }

@@ -11,7 +11,8 @@ ghost use Rattle.otp_office.specs.declared.orders.Sending.TheVariants as sending
 ghost use Rattle.otp_bodies.specs.declared.port.Flushed.TheVariants as flushed;
 ghost use Rattle.otp_office.specs.Rows.{slot_of};
 ghost use Rattle.otp_office.specs.Orders.{has_some};
-ghost use Rattle.otp_office.specs.Offices.{slot_to_start};
+ghost use Rattle.otp_office.specs.Offices.{slot_to_start, words_with_first};
+ghost use Rattle.otp_office.specs.Posts.{WerePosted, words_in};
 
 use crate::office::Office;
 use crate::orders::{Sending, end_in, first_order, sending_of};
@@ -38,6 +39,8 @@ impl<N: WordsNaming> Office<N> {
         ensures end { option_copied result ≡ first_end self.now.outbox }
         ensures comes { (note : Note) → IsFirst self.now (sending.Tell note) → Comes (item.Note note) (first_end self.now.outbox) }
         ensures whole { (note : Note) → IsFirst self.now (sending.Tell note) → is_some (first_end self.now.outbox) ≡ is_end_note note }
+        // To tell something needs no post.
+        ensures posted { (note : Note) → IsFirst self.now (sending.Tell note) → WerePosted (words_with_first self.now) (words_in self.now.owner.posts) }
     {
         laws::end_evidence();
         let effects = self.core.effects();
@@ -62,7 +65,8 @@ impl<N: WordsNaming> Office<N> {
     /// Posts what the first order says, to the slot of the row that has its process.
     fn post(&mut self, words: &Words<N>, number: u64, told: Signal) -> usize
         requires { Posts self.old number told }
-        ensures { Posted self.old self.new number told result }
+        ensures posted { Posted self.old self.new number told result }
+        ensures words { WerePosted (words_with_first self.new) (words_in self.new.owner.posts) }
     {
         laws::orders_are_numbered();
         let _ = self.core.history();
@@ -71,9 +75,10 @@ impl<N: WordsNaming> Office<N> {
         slot
     }
 
-    /// The first order was sent: it leaves the outbox.
+    /// The first order was sent: it leaves the outbox. Its word, if it has one, was posted.
     fn advance(&mut self)
-        requires { has_some self.old.outbox ≡ true }
+        requires some { has_some self.old.outbox ≡ true }
+        requires posted { WerePosted (words_with_first self.old) (words_in self.old.owner.posts) }
         ensures { self.new ≡ record self.old { outbox = drop 1 self.old.outbox; sent = self.old.sent + 1 } }
     {
         let effects = self.core.effects();

@@ -22,7 +22,9 @@ pub struct TableReport {
     pub ends_told: Vec<ToldEnd>,
     /// What it hadn't taken from its inbox, in the order in which it would have. Bodies that came with it are dropped.
     pub left: Vec<Item>,
-    /// How many starts it had still to send: one at most.
+    /// How many orders it had still to send: the last ones of its history.
+    pub unsent_orders: u64,
+    /// How many of them start a child: one at most.
     pub unsent: u64,
 }
 

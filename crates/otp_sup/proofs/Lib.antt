@@ -11,6 +11,7 @@ pub mod Flushing
 pub mod Leaving
 pub mod OneBody
 pub mod Planned
+pub mod Published
 pub mod Told
 pub mod Turning
 pub mod Unsent

@@ -24,6 +24,7 @@ use Rattle.otp_sup.specs.Told.{ends_told_in}
 use Rattle.otp_office.specs.Events.{items_of}
 use Rattle.otp_office.specs.Offices.{KeepsOffice, OfficeView, starts_sent}
 use Rattle.otp_sup.specs.Plans.{never_opened}
+use Rattle.otp_sup.specs.Published.{counts_along}
 
 -- what contracts see of a table
 pub record TableView : Type 0 where
@@ -108,8 +109,8 @@ pub record IsTable (plans : ℕ → Supervisor) (t : TableView) : Type 0 where
   -- each start call that waits has its body with it, in their order
   pub calls : calls_waiting t.bodies ≡ starts_waiting (state_of t.office.core).waiting
   pub bodies : HasBodies t.office t.bodies
-  -- what was published last is what it counts
-  pub counts : EndsWith (counts_of (state_of t.office.core)) t.counts.published
+  -- what it counted was published at first and after each event
+  pub counts : t.counts.published ≡ counts_along t.office.core.base t.office.core.history
   pub told : AreTold (stored_of t.office.core) t.ends_told
   -- they are those that came with what it took since the last checkpoint, and no other
   pub ends : t.ends_told ≡ ends_told_in t.office.core t.taker.taken
@@ -133,6 +134,8 @@ pub record KeepsRules (plans : ℕ → Supervisor) (t : TableView) : Type 0 wher
   pub each_body : HaveOneBody t.office t.bodies
   -- the counts that were published last are those of its children (count_children)
   pub counts : EndsWith (counts_of (state_of t.office.core)) t.counts.published
+  -- and all that were published are those before its first event and after each one, in their order, each once
+  pub published : t.counts.published ≡ counts_along t.office.core.base t.office.core.history
   -- the ends that it was told came with notes of its history: each is for the note's reason, and shown
   pub told : AreTold (stored_of t.office.core) t.ends_told
   -- they are the ends that came with what it took from its inbox since the last checkpoint, and no other

@@ -3,6 +3,7 @@ pub mod Facts
 pub mod Cuts
 pub mod Moves
 pub mod Plans
+pub mod Published
 pub mod Shares
 pub mod Told
 pub mod Turns

@@ -1,5 +1,5 @@
 //! Who sends calls to supervisors.
-ghost use Rattle.std.specs.Prelude.{◌≡◌, ◌+◌, ◌<◌, ◌≤◌, ◌⊎◌, [], is_some, IfOk, IfErr, OnOk, OnErr};
+ghost use Rattle.std.specs.Prelude.{◌≡◌, ◌+◌, ◌/◌, ◌<◌, ◌≤◌, ◌⊎◌, [], is_some, IfOk, IfErr, OnOk, OnErr};
 ghost use Rattle.otp_rules.specs.Homes.{is_start_call};
 ghost use Rattle.otp_signals.specs.Holdings.{cut_of, kept_of};
 ghost use Rattle.otp_sup.specs.Clients.{DrewOne, Submitted};
@@ -139,6 +139,7 @@ impl<N: WordsNaming + InboxNaming, B: Drop> Client<N, B> {
         // What this client has left: the other one has the rest.
         ensures owner { OnOk result (self.new.owner ≡ kept_of 0 0 quota self.old.owner) }
         ensures parts { IfOk result (λ new. (self.new.sender.parts + new.sender.parts ≡ self.old.sender.parts) × (0 < new.sender.parts)) }
+        ensures half { IfOk result (λ new. new.sender.parts ≡ self.old.sender.parts / 2) }
         ensures sender { OnOk result (self.new.sender ≡ record self.old.sender { parts = self.new.sender.parts }) }
         // It is refused exactly where the numbers don't reach or there is one part only, which is looked at first.
         ensures enough { OnOk result (quota ≤ self.old.owner.quota) }

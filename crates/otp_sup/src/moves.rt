@@ -85,24 +85,16 @@ fn move_bodies<B: Drop>(
     }
 }
 
-/// An end note brought this body, another note none.
+/// An end note brought this body, for the child in this slot, if there is one; another note none. Most often the body is at the
+/// place of its slot in the list; no other is looked at then.
 fn come<B: Drop>(bodies: &mut Bodies<B>, home: Option<usize>, body: Option<B>)
     requires room { 0 < bodies.old.room }
     requires one_body { (slot : ℕ) → count_home slot bodies.old.kept + count_away slot bodies.old.kept ≤ 1 }
     ensures { bodies.new.kept ≡ (if is_some body then came_for home bodies.old.kept else bodies.old.kept) }
 {
-    if let Some(body) = body {
-        come_for(bodies, home, body);
-    }
-}
-
-/// A body comes for the child in this slot, if there is one. Most often it is at the place of its slot in the list; no other is
-/// looked at then.
-fn come_for<B: Drop>(bodies: &mut Bodies<B>, home: Option<usize>, body: B)
-    requires room { 0 < bodies.old.room }
-    requires one_body { (slot : ℕ) → count_home slot bodies.old.kept + count_away slot bodies.old.kept ≤ 1 }
-    ensures { bodies.new.kept ≡ came_for home bodies.old.kept }
-{
+    let Some(body) = body else {
+        return;
+    };
     match home {
         Some(slot) if bodies.is_away_at(slot, slot) => bodies.come_back(slot, slot, body),
         _ => bodies.come(home, body),

@@ -17,6 +17,7 @@ use crate::naming::PlanNaming;
 use crate::table::Table;
 use otp_bodies::{Flushed, Letter, Message, Port, ToldEnd};
 use otp_core::{Core, ReplyAnswer};
+use otp_counts::Publisher;
 use otp_inbox::{Inbox, InboxNaming, Sender, Taker};
 use otp_office::{TurnAnswer, TurnFault};
 use otp_rules::Reply;
@@ -213,6 +214,8 @@ pub struct SupParts<N: WordsNaming + InboxNaming, B: Drop> {
     pub owner: Owner<N>,
     /// The taker of its inbox.
     pub taker: Taker<N, Message, Letter<B>>,
+    /// The right to publish its counts, which knows all that were published ([`Publisher::compare`]).
+    pub counts: Publisher,
     /// The ends of supervisors that it was told since the last checkpoint, in their order.
     pub ends_told: Vec<ToldEnd>,
 }
@@ -251,6 +254,13 @@ impl<N: WordsNaming + InboxNaming + PlanNaming, B: Drop> Unlocked<N, B> {
         self.table.keeps_rules();
     }
 
+    /// How many orders are still to be sent: the last ones of its history.
+    pub fn unsent_orders(&self) -> u64
+        ensures { result ≡ length self.now.table.office.outbox }
+    {
+        self.table.unsent_orders()
+    }
+
     /// How many of the orders that are still to be sent start a child: one at most.
     pub fn unsent_starts(&self) -> u64
         ensures value { result ≡ length (starts_in self.now.table.office.outbox) }
@@ -276,16 +286,18 @@ impl<N: WordsNaming + InboxNaming + PlanNaming, B: Drop> Unlocked<N, B> {
         ensures core { result.core ≡ self.table.office.core }
         ensures owner { result.owner ≡ self.table.office.owner }
         ensures taker { result.taker ≡ self.table.taker }
+        ensures counts { result.counts ≡ self.table.counts }
         ensures ends { result.ends_told.items ≡ self.table.ends_told }
     {
         let Unlocked { inbox, table } = self;
-        let (office, taker, ends_told) = table.into_parts();
+        let (office, taker, counts, ends_told) = table.into_parts();
         let (core, owner) = office.into_parts();
         SupParts {
             inbox,
             core,
             owner,
             taker,
+            counts,
             ends_told,
         }
     }

@@ -113,8 +113,9 @@ impl<N: WordsNaming + InboxNaming + PlanNaming, B: Drop> Table<N, B> {
     /// is that of a child that there is. Of each child specification one body at most is kept, and it is no other
     /// child's than that in the slot of the specification's place. Each start call that waits has its body with it, in their order.
     ///
-    /// Besides, each signal that it posted for one of its numbers is that of an order that was sent, or of the one to be sent next. No
-    /// two of its children have one slot, or one process. The counts that were published last are those of its children. And
+    /// Besides, the words that it posted are those of the orders that were sent, in their order; a start is posted again where a
+    /// port refused it. No two of its children have one slot, or one process. The counts that were published are those of its
+    /// children before the first event and after each one. And
     /// each end of a supervisor that it was told came with a note of its history, for the note's reason, and is shown. Whoever
     /// serves it was credited with a start for each one that it sent, and with a turn for each event and each time that its inbox
     /// was found empty.
@@ -275,6 +276,13 @@ impl<N: WordsNaming + InboxNaming + PlanNaming, B: Drop> Table<N, B> {
         self.taker.taken_count()
     }
 
+    /// How many orders are still to be sent.
+    pub fn unsent_orders(&self) -> u64
+        ensures { result ≡ length self.now.office.outbox }
+    {
+        self.office.unsent_orders()
+    }
+
     /// How many of the orders that are still to be sent start a child: one at most.
     pub fn unsent_starts(&self) -> u64
         ensures value { result ≡ length (starts_in self.now.office.outbox) }
@@ -284,22 +292,30 @@ impl<N: WordsNaming + InboxNaming + PlanNaming, B: Drop> Table<N, B> {
         self.office.unsent_starts()
     }
 
-    /// Takes it apart, at the end: its office, the taker of its inbox, and the ends that it was told. The bodies that it has
-    /// are dropped.
-    pub fn into_parts(self) -> (Office<N>, Taker<N, Message, Letter<B>>, Vec<ToldEnd>)
+    /// Takes it apart, at the end: its office, the taker of its inbox, the right to publish its counts, and the ends that it was
+    /// told. The bodies that it has are dropped.
+    pub fn into_parts(
+        self,
+    ) -> (
+        Office<N>,
+        Taker<N, Message, Letter<B>>,
+        Publisher,
+        Vec<ToldEnd>,
+    )
         ensures office { result.0 ≡ self.office }
         ensures taker { result.1 ≡ self.taker }
-        ensures ends { result.2.items ≡ self.ends_told }
+        ensures counts { result.2 ≡ self.counts }
+        ensures ends { result.3.items ≡ self.ends_told }
     {
         let Table {
             office,
             taker,
             bodies: _,
-            counts: _,
+            counts,
             ends,
             of: _,
         } = self;
-        (office, taker, ends)
+        (office, taker, counts, ends)
     }
 
     /// The least deadline in milliseconds of the children that were told to shut down: once the clock has come to it, a

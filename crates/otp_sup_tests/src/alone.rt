@@ -133,11 +133,15 @@ impl<N: WordsNaming + InboxNaming + PlanNaming> Stand for Alone<N> {
         assert!(rt; self.inbox.send(rt, &mut self.sender, letter).is_ok());
     }
 
-    // Orders are sent one by one.
+    // Orders are sent one by one, as many as it says are unsent.
     fn flush<R: Abort>(&mut self, rt: &R) -> u64 {
+        let unsent = self.table.unsent_orders();
         for sent in 0..10 {
             match self.flush_one(rt) {
-                Flushed::Empty => return sent,
+                Flushed::Empty => {
+                    same(rt, "the unsent orders", unsent, sent);
+                    return sent;
+                }
                 flushed => same(rt, "an order", flushed, Flushed::Sent),
             }
         }

@@ -300,8 +300,9 @@ fn stores<N: WordsNaming + InboxNaming + PlanNaming, R: Abort>(
     one: Alone<N>,
     events: usize,
 ) {
-    let (office, taker, ends) = one.into_table().into_parts();
+    let (office, taker, counts, ends) = one.into_table().into_parts();
     drop(taker);
+    drop(counts);
     drop(ends);
     let (core, owner) = office.into_parts();
     drop(owner);

@@ -209,7 +209,7 @@ fn check_small<R: Abort>(rt: &R, report: &Closed) {
     let counted = (root.starts(), root.restarts(), root.events());
     same(rt, "the starts and events", counted, (3, 0, 8));
     same(rt, "its end", root.end(), Some(Reason::Shutdown));
-    assert!(rt; root.left.is_empty() && root.unsent == 0);
+    assert!(rt; root.left.is_empty() && root.unsent_orders == 0 && root.unsent == 0);
     let counted = (report.begun, report.ended, report.live);
     same(rt, "the processes", counted, (4, 4, 0));
     // Nobody took what the root told: that it was up, and its end.

@@ -86,6 +86,7 @@ returns-clause-unsent g c =
       office = c.args.sup.table.office;
       keeps = c.keeps_rules.ensures.office;
       core = c.into_parts-inbox.ensures.core;
+      orders = c.unsent_orders-unsent_orders.ensures;
       starts = unsent.value;
       few = unsent.few;
     }
@@ -99,6 +100,7 @@ returns-clause-table g c =
       rules = c.keeps_rules.ensures;
       core = parts.core;
       ends = parts.ends;
+      unsent_orders = c.unsent_orders-unsent_orders.ensures;
       unsent = c.unsent_starts-unsent.ensures.value;
       left = subst (λ taker. IsLeft (all_sent c.args.sender) taker.taken c.settle-left.result.items) parts.taker c.settle-left.ensures.messages;
       given = c.settle-left.ensures.shares ∙ ap (λ t. t.given) parts.taker;

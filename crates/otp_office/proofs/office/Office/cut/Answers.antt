@@ -1,7 +1,9 @@
-use Rattle.std.proofs.Common.{◌≡◌, [], ap, ◌∙◌, drop, length, subst, sym}
+use Rattle.std.proofs.Common.{◌≡◌, List, [], ap, take, ◌∙◌, drop, length, subst, sym}
 use Rattle.otp_core.specs.View.{View}
 use Rattle.otp_office.specs.Offices.{IsOffice, OfficeView}
-use Rattle.otp_office.specs.Orders.{orders_in}
+use Rattle.otp_rules.specs.declared.event.Effect.{Effect}
+use Rattle.otp_office.specs.Orders.{orders_along, orders_in}
+use Rattle.otp_office.specs.Posts.{ArePosts, words_in}
 use Rattle.otp_office.proofs.office.Office.cut.Goals as goal
 
 pub invariant_of-self : goal.invariant_of-self
@@ -10,12 +12,14 @@ invariant_of-self g c =
     let is : c.cut.new.self ≡ record v { cut = length v.history; effects = [] } =
     (c.in-Ok.ensures {u = tt}).ok ∙ ap (λ (w : View). record w { cut = length w.history }) c.clear_effects.ensures in
     let Is : View → Type 0 = λ w. IsOffice (record { core = w; owner = c.self.inside.owner; outbox = orders_in (drop 0 w.effects); sent = c.self.inside.sent.count; first_slot = c.self.inside.first_slot }) in
+    let Next : List Effect → Type 0 = λ l. ArePosts (take c.self.inside.sent.count (orders_along v)) l (words_in c.self.inside.owner.posts) in
+    let empty : orders_in (drop c.self.inside.next v.effects) ≡ [] = ap (λ (o : OfficeView). o.outbox) c.self.view_is ∙ c.requires in
     subst Is (sym is) (record {
       begins = c.self.invariant.begins;
       numbers = c.self.invariant.numbers;
-      orders = sym (ap (λ (o : OfficeView). o.outbox) c.self.view_is ∙ c.requires) ∙ c.self.invariant.orders;
+      orders = sym empty ∙ c.self.invariant.orders;
       counted = c.self.invariant.counted;
-      posts = c.self.invariant.posts;
+      posts = subst Next empty c.self.invariant.posts;
       slots = c.self.invariant.slots;
       fits = c.self.invariant.fits;
     })

@@ -6,6 +6,7 @@ use Rattle.otp_office.specs.Offices.{IsOffice, OfficeView}
 use Rattle.otp_office.specs.Orders.{orders_in}
 use Rattle.otp_office.specs.Flushes.{first_end}
 use Rattle.otp_office.proofs.Evident.{first_comes, first_whole}
+use Rattle.otp_office.proofs.Posting.{told_first}
 use Rattle.otp_office.proofs.office.Office.first_end.Goals as goal
 
 pub returns-clause-end : goal.returns-clause-end
@@ -19,3 +20,6 @@ returns-clause-comes g c = λ n f. first_comes c.end_evidence.ensures.from_any c
 
 pub returns-clause-whole : goal.returns-clause-whole
 returns-clause-whole g c = λ n f. first_whole c.args.self.now n f
+
+pub returns-clause-posted : goal.returns-clause-posted
+returns-clause-posted g c = λ n f. told_first c.args.self.now n f (subst IsOffice c.self.view_is c.self.invariant)

@@ -18,7 +18,7 @@ pub returns-in-Ask-clause-flushed : goal.returns-in-Ask-clause-flushed
 returns-in-Ask-clause-flushed g c =
     let old : OfficeView = c.args.self.now in
     let new : OfficeView = c.advance-in-Ask.new.self in
-    let p = c.post.ensures in
+    let p = c.post.ensures.posted in
     let stepped = c.advance-in-Ask.ensures in
     let taken : Taken = taken_by (g.P.Port.processes c.args.port.now) (g.P.Port.notes c.args.port.now) in
     let S : Sending → Type 0 = λ h. IsSent h old new taken taken in (
@@ -31,7 +31,7 @@ pub returns-in-Kill-clause-flushed : goal.returns-in-Kill-clause-flushed
 returns-in-Kill-clause-flushed g c =
     let old : OfficeView = c.args.self.now in
     let new : OfficeView = c.advance-in-Kill.new.self in
-    let p = c.post-in-Kill.ensures in
+    let p = c.post-in-Kill.ensures.posted in
     let stepped = c.advance-in-Kill.ensures in
     let taken : Taken = taken_by (g.P.Port.processes c.args.port.now) (g.P.Port.notes c.args.port.now) in
     let S : Sending → Type 0 = λ h. IsSent h old new taken taken in (
@@ -44,7 +44,7 @@ pub returns-in_default-put-clause-flushed : goal.returns-in_default-put-clause-f
 returns-in_default-put-clause-flushed g c =
     let old : OfficeView = c.args.self.now in
     let new : OfficeView = c.advance.new.self in
-    let p = c.post-slot.ensures in
+    let p = c.post-slot.ensures.posted in
     let stepped = c.advance.ensures in
     let h = c.in_default-put.ensures {u = tt} in
     let before : Taken = taken_by (g.P.Port.processes c.args.port.now) (g.P.Port.notes c.args.port.now) in

@@ -1,8 +1,10 @@
 use Rattle.std.proofs.Common.{sym, drop, inr, subst}
 use Rattle.otp_signals.specs.declared.view.Holding.{Holding}
-use Rattle.otp_office.specs.Offices.{OfficeView, IsOffice}
+use Rattle.otp_office.specs.Offices.{OfficeView, IsOffice, words_with_first}
 use Rattle.otp_office.specs.Orders.{orders_in}
 use Rattle.otp_office.specs.Flushes.{Posts}
+use Rattle.otp_office.specs.Posts.{WerePosted, words_in}
+use Rattle.otp_office.proofs.Posting.{posted_first}
 use Rattle.otp_office.proofs.Sends.{known_number, posted}
 use Rattle.otp_office.proofs.office.Office.post.Goals as goal
 
@@ -16,3 +18,10 @@ invariant_of-self g c =
     let P : OfficeView → Type 0 = λ o. Posts o c.args.number c.args.told in
     let F : Holding → Type 0 = λ h. IsOffice (record { core = c.self.inside.core; owner = h; outbox = orders_in (drop c.self.inside.next c.self.inside.core.effects); sent = c.self.inside.sent.count; first_slot = c.self.inside.first_slot }) in
     subst F (sym c.post.ensures) (posted _ c.args.number _ c.args.told (subst P (sym c.self.view_is) c.requires) c.self.invariant)
+
+pub returns-clause-words : goal.returns-clause-words
+returns-clause-words g c =
+    let P : OfficeView → Type 0 = λ o. Posts o c.args.number c.args.told in
+    let o : OfficeView = record { core = c.self.inside.core; owner = c.self.inside.owner; outbox = orders_in (drop c.self.inside.next c.self.inside.core.effects); sent = c.self.inside.sent.count; first_slot = c.self.inside.first_slot } in
+    let F : Holding → Type 0 = λ h. WerePosted (words_with_first o) (words_in h.posts) in
+    subst F (sym c.post.ensures) (posted_first o c.args.number _ c.args.told (subst P (sym c.self.view_is) c.requires) c.self.invariant)

@@ -1,13 +1,12 @@
 use Rattle.std.proofs.Common.{◌≡◌, List, Option, ℕ, ap, arith, length, refl, sym, ◌∙◌, subst, IsSome}
 use Rattle.otp_core.specs.View.{View, state_of, stored_of}
-use Rattle.otp_counts.specs.Counts.{EndsWith}
-use Rattle.otp_rules.specs.Counts.{counts_of}
 use Rattle.otp_rules.specs.Waits.{starts_waiting}
 use Rattle.otp_bodies.specs.Bodies.{bodies_sent, calls_waiting}
 use Rattle.otp_sup.specs.Facts.{HasBodies}
 use Rattle.otp_office.specs.Offices.{OfficeView}
 use Rattle.otp_bodies.specs.Messages.{items_in}
 use Rattle.otp_office.specs.Events.{items_of}
+use Rattle.otp_sup.proofs.Published.{counts_same}
 use Rattle.otp_sup.proofs.Told.{ends_same}
 use Rattle.otp_sup.proofs.Flushing.{bodies_flushed, start_leaves}
 use Rattle.otp_bodies.specs.declared.bodies.Kept.{Kept}
@@ -51,7 +50,7 @@ invariant_of-self g c =
           ∙ c.self.invariant.calls
           ∙ ap (λ (v : View). starts_waiting (state_of v).waiting) (sym core);
       bodies = subst Has (sym is) (subst Slot (sym c.starting_slot-slot.ensures) (bodies_flushed _ _ _ _ _ _ _ c.self.inside.bodies.kept c.keeps_rules.ensures sent.flushed c.self.invariant.bodies));
-      counts = subst (λ (v : View). EndsWith (counts_of (state_of v)) c.self.inside.counts.published) (sym core) c.self.invariant.counts;
+      counts = counts_same _ _ _ (ap (λ (v : View). v.base) core) (ap (λ (v : View). v.history) core) c.self.invariant.counts;
       told = told_same _ _ _ _ (ap stored_of core) refl c.self.invariant.told;
       ends = ends_same old.core c.flush_one-flushed.new.self.core c.self.inside.taker.taken c.credit_start.new.taker.taken c.self.inside.ends.items (ap (λ (v : View). v.cut) core) (ap (λ (v : View). v.history) core) (ap (λ (t : TakerState Message). t.taken) c.credit_start.ensures.taker) c.self.invariant.ends;
       starts =

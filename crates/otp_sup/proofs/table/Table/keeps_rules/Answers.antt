@@ -1,8 +1,11 @@
-use Rattle.std.proofs.Common.{subst}
+use Rattle.std.proofs.Common.{subst, sym}
 use Rattle.otp_core.specs.View.{state_of}
+use Rattle.otp_counts.specs.Counts.{EndsWith}
+use Rattle.otp_rules.specs.Counts.{counts_of}
 use Rattle.otp_sup.specs.Facts.{KeepsRules}
 use Rattle.otp_office.specs.Orders.{starts_in}
 use Rattle.otp_sup.proofs.OneBody.{one_body_each}
+use Rattle.otp_sup.proofs.Published.{last_along}
 use Rattle.otp_sup.proofs.table.Table.keeps_rules.Goals as goal
 
 pub returns : goal.returns
@@ -14,7 +17,8 @@ returns g c =
       calls = c.self.invariant.calls;
       bodies = c.self.invariant.bodies;
       each_body = one_body_each (state_of c.self.inside.office.core) (starts_in c.self.inside.office.outbox) c.self.inside.bodies.kept c.self.invariant.bodies;
-      counts = c.self.invariant.counts;
+      counts = subst (EndsWith (counts_of (state_of c.self.inside.office.core))) (sym c.self.invariant.counts) (last_along c.self.inside.office.core.base c.self.inside.office.core.history);
+      published = c.self.invariant.counts;
       told = c.self.invariant.told;
       ends = c.self.invariant.ends;
       starts = c.self.invariant.starts;

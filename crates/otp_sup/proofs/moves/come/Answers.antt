@@ -7,7 +7,7 @@ use Rattle.otp_bodies.specs.declared.bodies.Place.{Place}
 use Rattle.otp_bodies.specs.declared.bodies.Place.TheVariants as placed
 use Rattle.otp_bodies.proofs.Few.{first_of_few, put_is}
 use Rattle.otp_bodies.proofs.Keeping.{IsFirstAt, any_at, moved_at}
-use Rattle.otp_sup.proofs.moves.come_for.Goals as goal
+use Rattle.otp_sup.proofs.moves.come.Goals as goal
 
 pub returns-in-Some : goal.returns-in-Some
 returns-in-Some g c =
