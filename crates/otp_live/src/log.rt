@@ -149,12 +149,11 @@ fn write_why(
 fn write_bearing(flags: &SupFlags, out: &mut Vec<u8>) -> Result<(), AllocError> {
     out.extend_from_slice(b": more than ")?;
     write_number(flags.intensity, out)?;
-    let words: &[u8] = if flags.intensity == 1 {
-        b" restart within "
+    if flags.intensity == 1 {
+        out.extend_from_slice(b" restart within ")?;
     } else {
-        b" restarts within "
-    };
-    out.extend_from_slice(words)?;
+        out.extend_from_slice(b" restarts within ")?;
+    }
     write_number(flags.period, out)?;
     out.extend_from_slice(b" s")
 }

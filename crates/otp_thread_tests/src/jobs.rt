@@ -197,12 +197,18 @@ fn is_told_its_id(rt: &impl Abort, alloc: Global, id: Option<Name>, note: Note) 
     let body: AnyBody = Body::Worker(job);
     let process = got(rt, "memory was refused", Process::of(alloc, ticket, body));
     assert!(rt; process.is_runnable());
-    let After::Done(end, spent) = one_turn(process, Signal::None) else {
-        panic!(rt; "its start is refused")
+    let told = match one_turn(process, Signal::None) {
+        After::Done(end, spent) => {
+            let told = end.note;
+            drop(end);
+            let _ = spent.into_number();
+            told
+        }
+        After::Again(process) | After::Waits(process) | After::Begun(process, _) => {
+            drop(process);
+            panic!(rt; "its start is refused")
+        }
     };
-    let told = end.note;
-    drop(end);
-    let _ = spent.into_number();
     same(rt, "its note", told, note);
 }
 
