@@ -98,7 +98,7 @@ fn plans_for<J: Drop, S: Drop>(
 /// the tree is closed. Out comes the report of what it was.
 ///
 /// It is served by 1 to 8 hands, each in a thread of its own, which sleep while there is nothing to do. The clock is the system's, in
-/// milliseconds since the call. The watch is told of starts and ends ([`Unwatched`](crate::Unwatched) says nothing,
+/// milliseconds since the call. The watch is told of starts, restarts and ends ([`Unwatched`](crate::Unwatched) says nothing,
 /// [`LogLines`](crate::LogLines) writes them).
 ///
 /// # Errors

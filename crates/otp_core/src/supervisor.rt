@@ -2,6 +2,7 @@
 
 ghost use Rattle.std.specs.Prelude.{ℕ, All, ◌≡◌, ◌+◌, ◌-◌, ◌<◌, ◌≤◌, ◌^◌, ◌↔◌, ◌++◌, ◌∷◌, [], true, false, length, not, is_some, is_none, nat_lt, max, min, IsTrue, None, Some, IfOk, IfErr, OnOk, OnErr, MatchOption, position, slice_get, vec_len, vec_capacity};
 ghost use Rattle.std.specs.List.{filter, list_any};
+ghost use Rattle.otp_core.specs.Again.{starts_again};
 ghost use Rattle.otp_core.specs.View.{new_core, past_of, state_of, stored_of, stored_state};
 ghost use Rattle.otp_core.specs.Opened.{IsOpenFault};
 ghost use Rattle.otp_core.specs.Full.{cut_after, has_most_events, has_most_lines, is_full, wants_cut};
@@ -37,7 +38,7 @@ use otp_decisions::effects::{count_orders, move_orders};
 use otp_decisions::next::{has_late, next_deadline};
 use otp_decisions::state::{answers_call, is_over, own_number};
 use otp_machine::{Given, Machine, Numbers};
-use otp_rules::{CountsNow, Effect, Event, Kind, Phase, Reply, SupEnd, Waiting, laws};
+use otp_rules::{CountsNow, Effect, Event, Kind, Phase, Reply, Sequel, SupEnd, Waiting, laws};
 use otp_spec::{ChildSpec, MAX_EVENTS, SupFlags, SupSpec, check_supervisor, copy_specs};
 use otp_stores::answers::{Answers, greater_of};
 use otp_stores::history::History;
@@ -357,6 +358,17 @@ impl Core {
         ensures { result ≡ is_some (state_of self.now).follows }
     {
         self.machine.follows.is_some()
+    }
+
+    /// Whether children are being started that had processes before, since the supervisor opened: by a restart, also that of another
+    /// child, or by restart_child.
+    pub fn starts_again(&self) -> bool
+        ensures { result ≡ starts_again (state_of self.now).follows }
+    {
+        matches!(
+            self.machine.follows,
+            Some(Sequel::Nothing | Sequel::Restarted(_))
+        )
     }
 
     /// Whether the supervisor was never opened, or has ended.

@@ -149,7 +149,13 @@ impl<N: SupNaming> Stand for Alone<N> {
     }
 
     fn put<R: Wait + Abort>(&mut self, _rt: &R) -> Option<(u64, usize, u64)> {
-        let NewProcess { number, slot, body } = self.port.processes.pop()?;
+        let NewProcess {
+            number,
+            slot,
+            body,
+            id: _,
+            again: _,
+        } = self.port.processes.pop()?;
         Some((number, slot, body?))
     }
 
