@@ -16,8 +16,7 @@
 //! ```
 //!
 //! `crates/otp_uses/src/until_stopped.rt` is this whole, with its job: another thread raises the stop, and a watch writes what
-//! happens. Whoever does more with the open tree writes a [`Session`]:
-//! [`plans`] makes what [`with_system`] takes.
+//! happens. Whoever does more with the open tree writes a [`Session`] for [`with_tree`].
 //!
 //! # Limits
 //!
@@ -52,5 +51,5 @@ pub use otp_tree::{
     PlanNaming, Report, Round, RunFault, Session, System, SystemFault, TablePlan, TableReport,
     with_system,
 };
-pub use running::{lead, plans, run, run_counted, run_turns, run_with_callers};
+pub use running::{lead, plans, run, run_counted, run_turns, run_with_callers, with_tree};
 pub use still::Still;
