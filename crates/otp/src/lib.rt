@@ -27,11 +27,14 @@
 pub mod fault;
 pub mod running;
 pub mod still;
+mod watching;
 
 pub use fault::{Fault, Unrun};
 pub use otp_bridge::{BoxedSubsystem, Bridge, Subsystem};
 pub use otp_core::ReplyAnswer;
-pub use otp_draft::{Child, ChildKeys, DraftFault, MAX_DEPTH, Refused, Runs, TreeDraft};
+pub use otp_draft::{
+    Child, ChildKeys, DraftFault, MAX_DEPTH, Refused, Runs, TreeDraft, TreePath, find_path,
+};
 pub use otp_inbox::InboxNaming;
 pub use otp_job::{Body, BoxedJob, Job, NoWaker, Place, Told, Turn};
 pub use otp_live::{

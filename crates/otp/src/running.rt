@@ -10,12 +10,14 @@ ghost use Rattle.otp_open.specs.Plans.{HaveBodies};
 ghost use Rattle.otp.specs.Runs.{IsBack, IsUnfinished, seen_in_tree, supervisors_of};
 
 use crate::fault::Unrun;
+use crate::watching::{AtPaths, paths_for};
 use otp_bridge::Subsystem;
 use otp_draft::{DraftFault, Refused, TablePlan, TreeDraft};
 use otp_job::Job;
 use otp_live::{Caller, Stop, Watch, close_callers};
 use otp_tree::{
-    CountedRun, Gate, Leader, Led, MAX_HANDS, Report, RunFault, Session, run_tree_counted, with_system,
+    CountedRun, Gate, Leader, Led, MAX_HANDS, Report, RunFault, Session, run_tree_counted,
+    with_system,
 };
 use std::alloc::Global;
 use std::sync::Wait;
@@ -105,8 +107,10 @@ fn plans_for<J: Drop, S: Drop>(
 /// the tree is closed. Out comes the report of what it was.
 ///
 /// It is served by 1 to 8 hands, each in a thread of its own, which sleep while there is nothing to do. The clock is the system's, in
-/// milliseconds since the call. The watch is told of starts and ends ([`Unwatched`](crate::Unwatched) says nothing,
-/// [`LogLines`](crate::LogLines) writes them).
+/// milliseconds since the call. The watch is told of starts and ends, each with the path of its supervisor
+/// ([`Unwatched`](crate::Unwatched) says nothing, [`LogLines`](crate::LogLines) writes them).
+///
+/// The report has the supervisors in the order of the tree's paths ([`TreeDraft::paths`]).
 ///
 /// # Errors
 ///
@@ -130,16 +134,13 @@ where
     ensures lawful { OnOk result (finish_fault root ≡ None) }
     ensures back { IfErr result (IsBack hands root) }
 {
-    let plans = plans_for(alloc, root, hands)?;
-    match otp_live::run(rt, alloc, plans, hands, stop, watch) {
-        Ok(report) => Ok(report),
-        Err(why) => Err(Unrun::Run(why)),
-    }
+    let callers = Vec::new(alloc);
+    run_with_callers(rt, alloc, root, hands, stop, watch, callers.as_slice())
 }
 
 /// The same, with these callers: by each of them a thread calls the tree's supervisors while it runs, as
-/// `supervisor:which_children` and the others do ([`Caller`]). Supervisors are numbered in the order of the walk, the root being 0:
-/// each before those below its own children.
+/// `supervisor:which_children` and the others do ([`Caller`]). A supervisor is called by its number, which [`TreeDraft::table_of`] says
+/// of its path; the root's is 0.
 ///
 /// # Errors
 ///
@@ -164,14 +165,28 @@ where
     ensures lawful { OnOk result (finish_fault root ≡ None) }
     ensures back { IfErr result (IsBack hands root) }
 {
+    let Ok(paths) = paths_for(alloc, &root, watch) else {
+        close_callers(rt, callers);
+        return Err(Unrun::Unfinished(Refused {
+            fault: DraftFault::OutOfMemory,
+            given: root,
+        }));
+    };
     let plans = match plans_for(alloc, root, hands) {
         Ok(plans) => plans,
         Err(why) => {
+            drop(paths);
             close_callers(rt, callers);
             return Err(why);
         }
     };
-    match otp_live::run_with_callers(rt, alloc, plans, hands, stop, watch, callers) {
+    let at_paths = AtPaths {
+        paths: paths.as_slice(),
+        watch,
+    };
+    let ran = otp_live::run_with_callers(rt, alloc, plans, hands, stop, &at_paths, callers);
+    drop(paths);
+    match ran {
         Ok(report) => Ok(report),
         Err(why) => Err(Unrun::Run(why)),
     }

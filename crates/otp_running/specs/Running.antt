@@ -1,5 +1,5 @@
 -- What a run of a tree writes (own).
-use Rattle.std.specs.Prelude.{◌≡◌, ◌⊎◌, ◌<◌, ⊤, ℕ, Bool, true, false, List, Option, None, Ok, [], length}
+use Rattle.std.specs.Prelude.{◌≡◌, ◌⊎◌, ◌<◌, ℕ, Bool, true, false, List, Option, None, Ok, [], length}
 use Rattle.std.specs.Io.KnownBytes.{Appends}
 use Rattle.otp_file.specs.Files.{Says}
 use Rattle.otp_file.specs.Trees.{Table, Tree, tables_of}
