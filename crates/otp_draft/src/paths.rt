@@ -30,7 +30,6 @@ impl Model for TreePath {
 
 impl TreePath {
     /// Its text.
-    #[tactic(auto, unfolding(crate::specs::Paths::path_text))]
     pub fn as_bytes(&self) -> &[u8]
         ensures { result.now ≡ path_text self.now }
     {
