@@ -1,7 +1,8 @@
 -- A tree that was drawn up, by the plans that it was opened with.
-use Rattle.std.proofs.Common.{Some, None, ◌≡◌, ℕ, zero, suc, ◌≤◌, List, [], ◌∷◌, Bool, true, false, All, arith, length, map, refl, sym, ap, ◌∙◌, subst}
+use Rattle.std.proofs.Common.{Some, None, ◌≡◌, ℕ, zero, suc, ◌≤◌, List, [], ◌∷◌, Bool, true, false, All, Result, arith, length, map, refl, sym, ap, ◌∙◌, subst}
 use Rattle.std.specs.Prelude.{slice_get, IfSome, MatchOption, if◌then◌else◌}
-use Rattle.otp_close.specs.Closes.{HaveBegun}
+use Rattle.otp_close.specs.Closes.{HaveBegun, report_in}
+use Rattle.otp_close.specs.declared.closing.CloseFault.{CloseFault}
 use Rattle.otp_draft.specs.Plans.{HasAllBodies, Planned, numbered, seen}
 use Rattle.otp_draft.specs.Trees.{Tree}
 use Rattle.otp_draft.specs.Trees as draft
@@ -10,6 +11,7 @@ use Rattle.otp_open.specs.Plans.{HasBodies, HaveBodies, LacksBody, Suffice}
 use Rattle.otp_open.specs.Plans as opened
 use Rattle.otp_open.specs.declared.opening.SystemFault.TheVariants as open_fault
 use Rattle.otp_open.specs.declared.plan.TablePlan.{TablePlan}
+use Rattle.otp_report.specs.declared.report.Report.{Report}
 use Rattle.otp_report.specs.declared.report.TableReport.{TableReport}
 use Rattle.otp_rules.specs.Step.{opening_specs}
 use Rattle.otp_run.proofs.Places.{each_at, map_at}
@@ -40,6 +42,14 @@ module _ {J S : Type 0} where
   have_begun plans root tables same begun =
       each_at (λ k (t : TableReport). t.core.base ≡ never_opened (opened.plans_of plans k)) (λ k t. t.core.base ≡ never_opened (supervisors_of root k)) tables begun
       (λ k t within is. is ∙ ap never_opened (said_at plans k ∙ ap (λ (all : List (Planned J S)). supervisor_in (slice_get all k)) same))
+
+  -- the same of a report that is there too where a mismatch was found
+  pub have_begun_in : (plans : List (TablePlan J S)) (root : Tree J S) (closed : Result (Report J S) (CloseFault J S (Unit {0})))
+      → map seen_in_tree plans ≡ numbered 0 (draft.plans_of root)
+      → IfSome (report_in closed) (λ report. HaveBegun (opened.plans_of plans) report.tables.items) → IfSome (report_in closed) (λ report. HaveBegun (supervisors_of root) report.tables.items)
+  have_begun_in plans root closed same =
+      elim (report_in closed) as (λ there. IfSome there (λ (report : Report J S). HaveBegun (opened.plans_of plans) report.tables.items) → IfSome there (λ report. HaveBegun (supervisors_of root) report.tables.items))
+      [ Some report ↦ (λ begun. have_begun plans root report.tables.items same begun) | None ↦ (λ none. tt) ]
 
   abbrev Enough : Planned J S → Type 0
   Enough plan = Suffice (length plan.bodies) plan.supervisor
