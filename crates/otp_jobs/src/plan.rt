@@ -1,12 +1,12 @@
 //! The plan of a tree whose children run worked jobs.
-ghost use Rattle.std.specs.Prelude.{ℕ, ◌≡◌, ◌+◌, ◌≤◌, ◌<◌, ◌∷◌, List, Some, None, IfOk, IfErr, OnOk, Ok, map, length};
+ghost use Rattle.std.specs.Prelude.{◌≡◌, ◌+◌, ◌≤◌, ◌<◌, ◌∷◌, List, Some, None, IfOk, IfErr, OnOk, Ok, map, length};
 ghost use Rattle.std.specs.List.{list_any};
 ghost use Rattle.otp_file.specs.Trees.{tables_of};
 ghost use Rattle.otp_spec.specs.declared.limits.TheConstants.{MAX_TABLES};
 ghost use Rattle.otp_spec.specs.declared.child.ChildSpec.{ChildSpec};
 ghost use Rattle.otp_jobs.specs.declared.plan.PlanFault.TheVariants.{TooManyTables};
-ghost use Rattle.otp_open.specs.Plans.{HaveBodies, plans_of};
-ghost use Rattle.otp_jobs.specs.Plans.{IsOfPlan, bodies_from, first_size, first_unknown, has_misfit, is_nested, joined, other_sizes, plan_of, plans_from, seen, supervisors_of, total, misfits, misfit_at, misfit_from, plan_fault, role_at, table_seen, unknown_at, unknown_from};
+ghost use Rattle.otp_open.specs.Plans.{HaveBodies};
+ghost use Rattle.otp_jobs.specs.Plans.{IsOfPlan, bodies_from, first_size, first_unknown, has_misfit, is_nested, joined, other_sizes, plan_of, plans_from, seen, total, misfits, misfit_at, misfit_from, plan_fault, role_at, table_seen, unknown_at, unknown_from};
 
 use crate::flat::{FlatTable, flatten};
 use crate::role::{Calm, Role, WorkedBody};
@@ -303,8 +303,6 @@ fn plan_all(alloc: Global, tables: Vec<FlatTable>) -> Result<Vec<WorkedPlan>, Al
 /// [`PlanFault::OutOfMemory`] and [`PlanFault::TooManyTables`].
 pub fn plan_tree(alloc: Global, tree: TreeSpec) -> Result<Vec<WorkedPlan>, PlanFault>
     ensures plans { IfOk result (λ plans. map seen plans.items ≡ plans_from 0 (tables_of tree)) }
-    // Each supervisor has the flags and the specifications of the table with its number.
-    ensures supervisors { IfOk result (λ plans. (number : ℕ) → plans_of plans.items number ≡ supervisors_of (tables_of tree) number) }
     ensures runnable { OnOk result (plan_fault (tables_of tree) ≡ None) }
     ensures fault { IfErr result (λ fault. IsOfPlan fault → plan_fault (tables_of tree) ≡ Some fault) }
     // Each supervisor has a body for each child that an opening makes.

@@ -3,7 +3,7 @@ use Rattle.std.proofs.Common.{◌≡◌, ℕ, ◌+◌, ◌<◌, ◌≤◌, Bool,
 use Rattle.std.proofs.lemmas.Bool.{leb-false}
 use Rattle.std.proofs.lemmas.List.{length-map}
 use Rattle.std.specs.List.{enumerate_from, flat_map}
-use Rattle.std.specs.Prelude.{nat_le, ◌==◌}
+use Rattle.std.specs.Prelude.{IfOk, nat_le, ◌==◌}
 use Rattle.otp_file.specs.Faults.{answer_of, fault_if}
 use Rattle.otp_file.specs.Files.{Says}
 use Rattle.otp_file.specs.Tree.{table_faults}
@@ -45,3 +45,7 @@ few file tree (document, (is, answered)) =
     let many = length-map tables (λ placed. table_said placed.1) in
     let same = ap length both.1 in
     omega (arith, low, many, same)
+
+pub few_in : (file : List ℕ) (answer : Result Tree TreeFault) → IfOk answer (λ tree. Says file (Ok tree)) → IfOk answer (λ tree. length (tables_of tree) ≤ MAX_TABLES)
+few_in file (Ok tree) says = few file tree says
+few_in file (Err fault) says = tt

@@ -1,6 +1,5 @@
 //! The plans of a tree whose jobs wait.
-ghost use Rattle.std.specs.Prelude.{ℕ, ◌≡◌, IfOk, length, map};
-ghost use Rattle.otp_open.specs.Plans.{HaveBodies, plans_of};
+ghost use Rattle.std.specs.Prelude.{◌≡◌, IfOk, length, map};
 ghost use Rattle.otp_serve.specs.Patient.{patient_body, patient_of, patient_seen};
 
 use crate::patient::{PatientJob, patient_body};
@@ -43,8 +42,6 @@ fn patient_plan(alloc: Global, plan: WorkedPlan) -> Result<PatientPlan, AllocErr
 pub fn patient_plans(alloc: Global, plans: Vec<WorkedPlan>) -> Result<Vec<PatientPlan>, AllocError>
     ensures plans { IfOk result (λ all. map patient_seen all.items ≡ map patient_of plans.items) }
     ensures count { IfOk result (λ all. length all.items ≡ length plans.items) }
-    ensures supervisors { IfOk result (λ all. (number : ℕ) → plans_of all.items number ≡ plans_of plans.items number) }
-    ensures bodies { IfOk result (λ all. HaveBodies plans.items → HaveBodies all.items) }
 {
     let mut all = Vec::new(alloc);
     for plan in plans {
