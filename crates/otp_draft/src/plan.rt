@@ -1,5 +1,5 @@
 //! The supervisors of a tree in one list.
-ghost use Rattle.std.specs.Prelude.{◌≡◌, ◌+◌, ◌<◌, ◌≤◌, All, [], length, map, vec_capacity};
+ghost use Rattle.std.specs.Prelude.{◌≡◌, ◌+◌, ◌<◌, ◌≤◌, ◌++◌, ◌∷◌, All, [], length, map, vec_capacity, vec_len};
 ghost use Rattle.otp_spec.specs.declared.limits.TheConstants.{MAX_TABLES};
 ghost use Rattle.otp_draft.specs.Plans.{HasAllBodies, IsNear, body_at, numbered, numbered_one, seen, wanted};
 
@@ -152,6 +152,19 @@ impl<J: Drop, S: Drop> TreePlan<J, S> {
     }
 }
 
+/// Puts a supervisor behind the others, for which there is room.
+fn put_plan<J: Drop, S: Drop>(plans: &mut Vec<TablePlan<J, S>>, plan: TablePlan<J, S>)
+    requires full { All HasAllBodies plans.old.items }
+    requires plan { HasAllBodies plan }
+    requires room { vec_len plans.old < vec_capacity plans.old }
+    ensures plans { plans.new.items ≡ plans.old.items ++ plan ∷ [] }
+    ensures full { All HasAllBodies plans.new.items }
+    ensures len { vec_len plans.new ≡ vec_len plans.old + 1 }
+    ensures capacity { vec_capacity plans.new ≡ vec_capacity plans.old }
+{
+    plans.push_reserved(plan);
+}
+
 /// Supervisors under their numbers, from this one on.
 fn number_all<J: Drop, S: Drop>(
     tables: Vec<PlannedTable<J, S>>,
@@ -168,7 +181,7 @@ fn number_all<J: Drop, S: Drop>(
     let mut plans = room;
     let mut number = first;
     for table in tables {
-        plans.push_reserved(table.numbered(number));
+        put_plan(&mut plans, table.numbered(number));
         number += 1;
     }
     plans

@@ -1,3 +1,4 @@
+use Rattle.std.proofs.Common.{[]}
 use Rattle.otp_draft.proofs.Led.{led}
 use Rattle.otp_draft.proofs.laws.paths_are_walked.Goals as goal
 
