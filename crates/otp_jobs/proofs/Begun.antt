@@ -18,7 +18,7 @@ use Rattle.otp_jobs.specs.Plans.{PlanView, plans_from, seen, supervisors_of}
 use Rattle.otp_jobs.specs.declared.role.Calm.{Calm}
 use Rattle.otp_jobs.specs.declared.worker.WorkedJob.{WorkedJob}
 
-supervisor_seen : Option PlanView → Supervisor
+abbrev supervisor_seen : Option PlanView → Supervisor
 supervisor_seen (Some view) = record { flags = view.flags; specs = view.specs }
 supervisor_seen None = no_plan
 

@@ -13,7 +13,7 @@ use Rattle.otp_sup.specs.Plans.{no_plan}
 use Rattle.otp_serve.specs.Patient.{PatientView, patient_body, patient_of, patient_seen}
 use Rattle.otp_serve.specs.declared.patient.PatientJob.{PatientJob}
 
-shown : Option PatientView → Supervisor
+abbrev shown : Option PatientView → Supervisor
 shown (Some view) = record { flags = view.flags; specs = view.specs }
 shown None = no_plan
 
