@@ -147,7 +147,28 @@ fn split<N: WordsNaming + InboxNaming + PlanNaming, R: Wait + Abort>(
     let wanted = Some((SubmitCause::WrongBody, Some(3)));
     same(rt, "a body that no call wants", why, wanted);
     let second = first.split(words, sup.inbox(), CALLS);
-    got(rt, "a client was refused", second)
+    let mut second = got(rt, "a client was refused", second);
+    halves_twice(rt, first, words, sup);
+    halves_twice(rt, &mut second, words, sup);
+    second
+}
+
+// Of the eight parts of the right to send that the first client had each of the two has four: so either may be split twice more,
+// and has one part then, which is no two clients'.
+fn halves_twice<N: WordsNaming + InboxNaming + PlanNaming, R: Wait + Abort>(
+    rt: &R,
+    client: &mut Client<N, u64>,
+    words: &Words<N>,
+    sup: &Sup<N, u64>,
+) {
+    for _ in 0..2 {
+        assert!(rt; client.number() == sup.inbox().number());
+        let other = client.split(words, sup.inbox(), 0);
+        drop(got(rt, "half of its parts", other));
+    }
+    assert!(rt; client.number() == sup.inbox().number());
+    let last = client.split(words, sup.inbox(), 0);
+    same(rt, "half of a part", last.err(), Some(SplitFault::OnePart));
 }
 
 // Sends its calls, and answers their numbers. One more is refused, as no number is left.

@@ -33,7 +33,8 @@ pub(crate) struct Driven<N: WordsNaming + InboxNaming + PlanNaming> {
     pub(crate) number: u64,
 }
 
-// A supervisor of these children, with these bodies for the specifications. Its client may send so many calls.
+// A supervisor of these children, with these bodies for the specifications. Its client may send so many calls, and has eight parts
+// of the right to send.
 pub(crate) fn make_driven<N: WordsNaming + InboxNaming + PlanNaming, R: Abort>(
     rt: &R,
     alloc: Global,
@@ -60,14 +61,14 @@ pub(crate) fn make_driven<N: WordsNaming + InboxNaming + PlanNaming, R: Abort>(
     drop(owner);
     let (inbox, taker, mut sender) = inbox.named::<N>(0);
     let table = seat_table(rt, alloc, supervisor, bodies, seat, taker);
-    let own = inbox.split(&mut sender, 1);
-    let client = Client::new(alloc, callers, sender);
+    let calling = inbox.split(&mut sender, 8);
+    let client = Client::new(alloc, callers, calling);
     let sup = Sup::new(inbox, table);
     Driven {
         words,
         viewer,
         sup,
-        sender: own,
+        sender,
         client,
         port: MemoryPort::new(alloc),
         number: 0,
