@@ -338,7 +338,7 @@ fn alone() -> Option<Reason> {
 // so: the first holds in vain, and the second sees that the first had its turn. With three hands one has nothing to do at last.
 #[test]
 fn several_threads_run_two_jobs_at_once_and_one_does_not(rt: HostRuntime) {
-    let met = (2, 0, Some(Reason::Normal));
+    let met: (u64, u64, Option<Reason>) = (2, 0, Some(Reason::Normal));
     let runs = [
         (Grove::Meeting(10_000_000), 2, 1_000_000, met),
         (Grove::Meeting(10_000_000), 3, 20_000, met),

@@ -129,7 +129,7 @@ impl Shared {
 
     /// Whether a worker lingers, soon.
     pub(crate) fn one_lingers(&self) -> bool {
-        comes_to(&self.lingers, 1, 100)
+        comes_to(&self.lingers, 1, 20)
     }
 
     /// A turn that lasts for so many looks, or until hands were often told that none has anything to do.

@@ -101,8 +101,9 @@ const WIDE: [Child; 8] = [
 
 fn wide(rt: &impl Abort, alloc: Global, kind: Kind, shared: &Common) -> Vec<Plan> {
     let mut plans = single(rt, alloc, &WIDE, shared);
-    for _ in WIDE.iter() {
-        let sub = plan_of(rt, alloc, &[Child::Does("x", kind)], 1_000, shared);
+    let one = [Child::Does("x", kind)];
+    for _ in 0..WIDE.len() {
+        let sub = plan_of(rt, alloc, &one, 1_000, shared);
         got(rt, MEMORY, plans.push(sub));
     }
     plans
@@ -631,9 +632,9 @@ fn whoever_rests_is_found_at_once(rt: HostRuntime) {
 // One worker, whose turns last long, and two hands. The other one has nothing to do, but isn't told so before the worker's hand has
 // made its turns.
 const LINGERING: Life = Life {
-    grove: Grove::Lingering(1_000),
+    grove: Grove::Lingering(20),
     wait: Before::Lingering,
-    turns: 50,
+    turns: 20,
     steps: &[Step::Up, Step::Rounds(3)],
     seen: &[Seen::Up],
     ..UP_AND_DOWN

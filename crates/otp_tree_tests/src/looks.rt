@@ -97,7 +97,7 @@ impl<N: WordsNaming> Watch<N> {
     }
 }
 
-fn looks_in<N: WordsNaming>(rt: &impl Abort, alloc: Global, opened: OpenWords)
+fn looks_in<N: WordsNaming, R: Abort>(rt: &R, alloc: Global, opened: OpenWords)
     requires name { opened.words ≡ N.words }
     requires slots { opened.slots ≡ 64 }
 {
@@ -122,8 +122,8 @@ fn looks_in<N: WordsNaming>(rt: &impl Abort, alloc: Global, opened: OpenWords)
 
 #[test]
 fn each_that_waits_is_looked_at(rt: HostRuntime) {
-    let opened = got(&rt, MEMORY, OpenWords::open(rt.alloc(), COUNT));
-    looks_in::<Brand>(&rt, rt.alloc(), opened);
+    let opened = got(&rt, MEMORY, OpenWords::open(rt.alloc(), 64));
+    looks_in::<Brand, _>(&rt, rt.alloc(), opened);
 }
 
 // Of five supervisors that rest two are looked at in a turn, and after the last the first again. They rest until the least of
