@@ -130,7 +130,7 @@ fn each_that_waits_is_looked_at(rt: HostRuntime) {
 // their deadlines.
 #[test]
 fn supervisors_that_rest_are_looked_at_in_turn(rt: HostRuntime) {
-    let mut resting = Resting::new(rt.alloc());
+    let mut resting: Resting<u64, u64> = Resting::new(rt.alloc());
     for (table, due) in [None, Some(7), Some(5), None, Some(9)].iter().enumerate() {
         let rested = Rested {
             process: process_in(&rt, rt.alloc(), table, 1),
