@@ -1,11 +1,16 @@
--- What comes back of a tree that was not run. (own)
-use Rattle.std.specs.Prelude.{◌≡◌, ◌<◌, ◌⊎◌, ℕ, Some, None}
+-- What comes of a tree that was drawn up, and what comes back of one that was not run. (own)
+use Rattle.std.specs.Prelude.{◌≡◌, ◌<◌, ◌⊎◌, ⊤, ℕ, Option, Some, None, slice_get}
 use Rattle.otp_draft.specs.Faults.{IsOfDraft, finish_fault}
-use Rattle.otp_draft.specs.Plans.{Planned}
-use Rattle.otp_draft.specs.Trees.{Tree}
+use Rattle.otp_draft.specs.Plans.{Planned, numbered}
+use Rattle.otp_draft.specs.Trees.{Tree, plans_of}
 use Rattle.otp_draft.specs.declared.fault.Refused.{Refused}
 use Rattle.otp_run.specs.Rule.{all_parts}
-use Rattle.otp_tree.specs.Closes.{IsRunMismatchOnly}
+use Rattle.otp_spec.specs.Supervisor.{Supervisor}
+use Rattle.otp_sup.specs.Plans.{no_plan}
+use Rattle.otp_tree.specs.Closes.{IsRunMismatchOnly, IsRunNoneMissing}
+use Rattle.otp_tree.specs.declared.whole.RunFault.{RunFault}
+use Rattle.otp_tree.specs.declared.whole.RunFault.TheVariants as run
+use Rattle.otp_open.specs.declared.opening.SystemFault.TheVariants as open_fault
 use Rattle.otp_open.specs.declared.plan.TablePlan.{TablePlan}
 use Rattle.otp.specs.declared.fault.Unrun.{Unrun}
 use Rattle.otp.specs.declared.fault.Unrun.TheVariants as unrun
@@ -15,13 +20,28 @@ module _ {J S : Type 0} where
   abbrev pub seen_in_tree : TablePlan J S → Planned J S
   seen_in_tree plan = record { supervisor = plan.supervisor; bodies = plan.bodies.items }
 
+  abbrev pub supervisor_in : Option (Planned J S) → Supervisor
+  supervisor_in (Some plan) = plan.supervisor
+  supervisor_in None = no_plan
+
+  -- the flags and the specifications of the supervisor with each number, which is its place in the walk over the tree
+  abbrev pub supervisors_of : Tree J S → ℕ → Supervisor
+  supervisors_of root number = supervisor_in (slice_get (numbered 0 (plans_of root)) number)
+
+  -- no child is said to have no body
+  abbrev pub IsRunNoneBare : RunFault J S → Type 0
+  IsRunNoneBare (run.Open open_fault.OutOfMemory) = ⊤
+  IsRunNoneBare (run.Open (open_fault.NoBody table)) = ⊥
+  IsRunNoneBare (run.Close why) = ⊤
+
   -- the tree comes back, with the first fault of its root, or because memory was refused
   pub record IsUnfinished (root : Tree J S) (back : Refused (Tree J S)) : Type 0 where
     pub given : back.given ≡ root
     pub why : IsOfDraft back.fault → finish_fault root ≡ Some back.fault
 
-  -- the tree comes back, but where its life had begun
+  -- the tree comes back, but where its life had begun. Then memory was refused, or a mismatch was found: each child of a draft
+  -- has its body, and nobody else has a part of the tree
   abbrev pub IsBack : ℕ → Tree J S → Unrun J S → Type 0
   IsBack hands root (unrun.Hands given) = (given ≡ root) × ((hands < 1) ⊎ (all_parts < hands))
   IsBack hands root (unrun.Unfinished back) = IsUnfinished root back
-  IsBack hands root (unrun.Run why) = (finish_fault root ≡ None) × IsRunMismatchOnly why
+  IsBack hands root (unrun.Run why) = (finish_fault root ≡ None) × (IsRunMismatchOnly why × (IsRunNoneMissing why × IsRunNoneBare why))

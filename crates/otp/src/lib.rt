@@ -16,8 +16,7 @@
 //! ```
 //!
 //! `crates/otp_uses/src/until_stopped.rt` is this whole, with its job: another thread raises the stop, and a watch writes what
-//! happens. Whoever does more with the open tree writes a [`Session`]:
-//! [`plans`] makes what [`with_system`] takes.
+//! happens. Whoever does more with the open tree writes a [`Session`] for [`with_tree`].
 //!
 //! # Limits
 //!
@@ -28,11 +27,14 @@
 pub mod fault;
 pub mod running;
 pub mod still;
+mod watching;
 
 pub use fault::{Fault, Unrun};
 pub use otp_bridge::{BoxedSubsystem, Bridge, Subsystem};
 pub use otp_core::ReplyAnswer;
-pub use otp_draft::{Child, ChildKeys, DraftFault, MAX_DEPTH, Refused, Runs, TreeDraft};
+pub use otp_draft::{
+    Child, ChildKeys, DraftFault, MAX_DEPTH, Refused, Runs, TreeDraft, TreePath, find_path,
+};
 pub use otp_job::{Body, BoxedJob, Job, NoWaker, Place, Told, Turn};
 pub use otp_live::{
     Answer, CallError, Caller, DeleteRefusal, GetRefusal, Happening, LogLines, Mailbox, NoRefusal,
@@ -49,5 +51,5 @@ pub use otp_tree::{
     Report, Round, RunFault, Session, System, SystemFault, TablePlan, TableReport, TreeNaming,
     with_system,
 };
-pub use running::{lead, plans, run, run_counted, run_turns, run_with_callers};
+pub use running::{lead, plans, run, run_counted, run_turns, run_with_callers, with_tree};
 pub use still::Still;

@@ -1,19 +1,24 @@
 //! A tree that was drawn up is run.
-ghost use Rattle.std.specs.Prelude.{◌≡◌, ◌+◌, ◌<◌, ◌≤◌, IfErr, IfOk, None, OnOk, [], length, map, vec_capacity};
+ghost use Rattle.std.specs.Prelude.{◌≡◌, ◌+◌, ◌<◌, ◌≤◌, IfErr, IfOk, IfSome, None, OnOk, [], length, map, vec_capacity};
 ghost use Rattle.otp_draft.specs.Faults.{finish_fault};
 ghost use Rattle.otp_draft.specs.Plans.{numbered, seen};
 ghost use Rattle.otp_draft.specs.Trees.{plans_of, size};
 ghost use Rattle.otp_run.specs.Rule.{all_parts};
 ghost use Rattle.otp_spec.specs.declared.limits.TheConstants.{MAX_TABLES};
-ghost use Rattle.otp_close.specs.Closes.{IsMismatchOnly, IsReportOf};
-ghost use Rattle.otp.specs.Runs.{IsBack, IsUnfinished, seen_in_tree};
+ghost use Rattle.otp_close.specs.Closes.{HaveBegun, IsMismatchOnly, IsReportOf, NoneMissing, report_in};
+ghost use Rattle.otp_open.specs.Plans.{HaveBodies};
+ghost use Rattle.otp.specs.Runs.{IsBack, IsUnfinished, seen_in_tree, supervisors_of};
 
 use crate::fault::Unrun;
+use crate::watching::{AtPaths, paths_for};
 use otp_bridge::Subsystem;
 use otp_draft::{DraftFault, Refused, TablePlan, TreeDraft};
 use otp_job::Job;
 use otp_live::{Caller, Stop, Watch, close_callers};
-use otp_tree::{CountedRun, Gate, Leader, Led, MAX_HANDS, Report, RunFault, run_tree_counted};
+use otp_tree::{
+    CountedRun, Gate, Leader, Led, MAX_HANDS, Report, RunFault, Session, run_tree_counted,
+    with_system,
+};
 use std::alloc::Global;
 use std::sync::Wait;
 use std::thread::Threads;
@@ -50,6 +55,8 @@ pub fn plans<J: Drop, S: Drop>(
     ensures plans { IfOk result (λ all. map seen_in_tree all.items ≡ numbered 0 (plans_of root)) }
     ensures count { IfOk result (λ all. length all.items ≡ size root) }
     ensures few { IfOk result (λ all. length all.items ≤ MAX_TABLES) }
+    // Each has a body for each child that an opening makes.
+    ensures bodies { IfOk result (λ all. HaveBodies all.items) }
     ensures lawful { OnOk result (finish_fault root ≡ None) }
     ensures back { IfErr result (IsUnfinished root) }
 {
@@ -77,8 +84,10 @@ fn plans_for<J: Drop, S: Drop>(
     root: TreeDraft<J, S>,
     hands: usize,
 ) -> Result<Vec<otp_tree::TablePlan<J, S>>, Unrun<J, S>>
+    ensures plans { IfOk result (λ all. map seen_in_tree all.items ≡ numbered 0 (plans_of root)) }
     ensures count { IfOk result (λ all. length all.items ≡ size root) }
     ensures few { IfOk result (λ all. length all.items ≤ MAX_TABLES) }
+    ensures bodies { IfOk result (λ all. HaveBodies all.items) }
     ensures lawful { OnOk result (finish_fault root ≡ None) }
     ensures some { OnOk result (0 < hands) }
     ensures served { OnOk result (hands ≤ all_parts) }
@@ -98,8 +107,10 @@ fn plans_for<J: Drop, S: Drop>(
 /// the tree is closed. Out comes the report of what it was.
 ///
 /// It is served by 1 to 8 hands, each in a thread of its own, which sleep while there is nothing to do. The clock is the system's, in
-/// milliseconds since the call. The watch is told of starts and ends ([`Unwatched`](crate::Unwatched) says nothing,
-/// [`LogLines`](crate::LogLines) writes them).
+/// milliseconds since the call. The watch is told of starts, restarts and ends, each with the path of its supervisor
+/// ([`Unwatched`](crate::Unwatched) says nothing, [`LogLines`](crate::LogLines) writes them).
+///
+/// The report has the supervisors in the order of the tree's paths ([`TreeDraft::paths`]).
 ///
 /// # Errors
 ///
@@ -118,19 +129,18 @@ where
     S: Subsystem + Send,
     W: Watch + Sync,
     ensures report { IfOk result (IsReportOf (size root)) }
+    // Each supervisor's core began with the flags and the specifications that the tree has under its number, never opened.
+    ensures plans { IfOk result (λ report. HaveBegun (supervisors_of root) report.tables.items) }
     ensures lawful { OnOk result (finish_fault root ≡ None) }
     ensures back { IfErr result (IsBack hands root) }
 {
-    let plans = plans_for(alloc, root, hands)?;
-    match otp_live::run(rt, alloc, plans, hands, stop, watch) {
-        Ok(report) => Ok(report),
-        Err(why) => Err(Unrun::Run(why)),
-    }
+    let callers = Vec::new(alloc);
+    run_with_callers(rt, alloc, root, hands, stop, watch, callers.as_slice())
 }
 
 /// The same, with these callers: by each of them a thread calls the tree's supervisors while it runs, as
-/// `supervisor:which_children` and the others do ([`Caller`]). Supervisors are numbered in the order of the walk, the root being 0:
-/// each before those below its own children.
+/// `supervisor:which_children` and the others do ([`Caller`]). A supervisor is called by its number, which [`TreeDraft::table_of`] says
+/// of its path; the root's is 0.
 ///
 /// # Errors
 ///
@@ -150,17 +160,33 @@ where
     S: Subsystem + Send,
     W: Watch + Sync,
     ensures report { IfOk result (IsReportOf (size root)) }
+    // Each supervisor's core began with the flags and the specifications that the tree has under its number, never opened.
+    ensures plans { IfOk result (λ report. HaveBegun (supervisors_of root) report.tables.items) }
     ensures lawful { OnOk result (finish_fault root ≡ None) }
     ensures back { IfErr result (IsBack hands root) }
 {
+    let Ok(paths) = paths_for(alloc, &root, watch) else {
+        close_callers(rt, callers);
+        return Err(Unrun::Unfinished(Refused {
+            fault: DraftFault::OutOfMemory,
+            given: root,
+        }));
+    };
     let plans = match plans_for(alloc, root, hands) {
         Ok(plans) => plans,
         Err(why) => {
+            drop(paths);
             close_callers(rt, callers);
             return Err(why);
         }
     };
-    match otp_live::run_with_callers(rt, alloc, plans, hands, stop, watch, callers) {
+    let at_paths = AtPaths {
+        paths: paths.as_slice(),
+        watch,
+    };
+    let ran = otp_live::run_with_callers(rt, alloc, plans, hands, stop, &at_paths, callers);
+    drop(paths);
+    match ran {
         Ok(report) => Ok(report),
         Err(why) => Err(Unrun::Run(why)),
     }
@@ -191,6 +217,7 @@ where
     G: Gate + Sync,
     ensures counts { IfOk result (λ run. length run.counts.items ≡ size root) }
     ensures report { IfOk result (λ run. IsReportOf (size root) run.report) }
+    ensures plans { IfOk result (λ run. HaveBegun (supervisors_of root) run.report.tables.items) }
     ensures lawful { OnOk result (finish_fault root ≡ None) }
     ensures back { IfErr result (IsBack hands root) }
 {
@@ -216,6 +243,8 @@ where
     S: Subsystem + Send,
     G: Gate + Sync,
     ensures report { IfOk result (IsReportOf (size root)) }
+    // Each supervisor's core began with the flags and the specifications that the tree has under its number, never opened.
+    ensures plans { IfOk result (λ report. HaveBegun (supervisors_of root) report.tables.items) }
     ensures lawful { OnOk result (finish_fault root ≡ None) }
     ensures back { IfErr result (IsBack hands root) }
 {
@@ -247,7 +276,10 @@ where
     G: Gate + Sync,
     L: Leader<J, S>,
     ensures report { IfOk result (λ led. IfOk led.report (IsReportOf (size root))) }
+    ensures plans { IfOk result (λ led. IfSome (report_in led.report) (λ report. HaveBegun (supervisors_of root) report.tables.items)) }
     ensures mismatch { IfOk result (λ led. IfErr led.report IsMismatchOnly) }
+    // All parts of the tree are there when it is closed, since nobody else has one.
+    ensures missing { IfOk result (λ led. IfErr led.report NoneMissing) }
     ensures lawful { OnOk result (finish_fault root ≡ None) }
     ensures back { IfErr result (IsBack hands root) }
 {
@@ -260,6 +292,39 @@ where
     };
     match otp_tree::lead(rt, alloc, plans, hands, gate, rounds, leader) {
         Ok(led) => Ok(led),
+        Err(why) => Err(Unrun::Run(RunFault::Open(why))),
+    }
+}
+
+/// Opens a tree for 1 to 8 hands, and runs a session with it ([`otp_tree::with_system`]): whoever serves the hands himself, or calls
+/// the tree's supervisors from the thread that does.
+///
+/// # Errors
+///
+/// [`Unrun::Hands`] and [`Unrun::Unfinished`] with the tree; [`Unrun::Run`] where it was not opened. The session is dropped then.
+pub fn with_tree<R, J, S, T>(
+    rt: &R,
+    alloc: Global,
+    root: TreeDraft<J, S>,
+    hands: usize,
+    session: T,
+) -> Result<T::Output, Unrun<J, S>>
+where
+    J: Drop,
+    S: Drop,
+    T: Session<R, J, S>,
+    ensures lawful { OnOk result (finish_fault root ≡ None) }
+    ensures back { IfErr result (IsBack hands root) }
+{
+    let plans = match plans_for(alloc, root, hands) {
+        Ok(plans) => plans,
+        Err(why) => {
+            drop(session);
+            return Err(why);
+        }
+    };
+    match with_system(rt, alloc, plans, hands, session) {
+        Ok(output) => Ok(output),
         Err(why) => Err(Unrun::Run(RunFault::Open(why))),
     }
 }

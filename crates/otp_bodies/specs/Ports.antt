@@ -1,5 +1,6 @@
 -- What a port took.
 use Rattle.std.specs.Prelude.{◌≡◌, ℕ, ◌≤◌, ◌++◌, Bool, List, Option, is_some, map, sum_by}
+use Rattle.otp_reason.specs.declared.name.Name.{Name}
 use Rattle.otp_reason.specs.declared.note.Note.{Note}
 use Rattle.otp_rules.specs.declared.ending.SupEnd.{SupEnd}
 use Rattle.otp_bodies.specs.declared.port.Launched.{Launched}
@@ -7,12 +8,12 @@ use Rattle.otp_bodies.specs.declared.port.NewProcess.{NewProcess}
 use Rattle.otp_bodies.specs.declared.port.ToldNote.{ToldNote}
 use Rattle.otp_bodies.specs.Letters.{one_if}
 
--- a process that a port took: its number, its slot, and whether it had a body
-abbrev pub launched : ℕ → ℕ → Bool → Launched
-launched number slot body = record { number = number; slot = slot; body = body }
+-- a process that a port took: its number, its slot, the id of its child, whether that had a process before, and whether it had a body
+abbrev pub launched : ℕ → ℕ → Option Name → Bool → Bool → Launched
+launched number slot id again body = record { number = number; slot = slot; id = id; again = again; body = body }
 
 abbrev pub launched_all : {B : Type 0} → List (NewProcess B) → List Launched
-launched_all processes = map (λ p. launched p.number p.slot (is_some p.body)) processes
+launched_all processes = map (λ p. launched p.number p.slot p.id p.again (is_some p.body)) processes
 
 -- a note that a port took, with the end that it tells, if it is that of an end
 abbrev pub told : Note → Option SupEnd → ToldNote

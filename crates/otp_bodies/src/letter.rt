@@ -1,6 +1,6 @@
 //! What is sent to a supervisor. Most of it is notes, so the specification that a call brings stands apart, in a box, and so
 //! does the end of a supervisor: a letter takes 104 bytes and those of its body's place, and more only where it brings either.
-ghost use Rattle.std.specs.Prelude.{◌≡◌, is_some, IfErr, IfOk, IfSome, None};
+ghost use Rattle.std.specs.Prelude.{◌≡◌, is_some, option_copied, IfErr, IfOk, IfSome, None};
 ghost use Rattle.otp_bodies.specs.Letters.{Comes, carries_body};
 ghost use Rattle.otp_bodies.specs.LetterInside.{call_of, item_of};
 ghost use Rattle.otp_rules.specs.declared.event.Item.TheVariants as item;
@@ -8,7 +8,7 @@ ghost use Rattle.otp_rules.specs.declared.event.Item.TheVariants as item;
 use crate::told::Evidence;
 use otp_inbox::Mail;
 use otp_reason::{Name, Note};
-use otp_rules::{Call, Item};
+use otp_rules::{Call, Item, SupEnd};
 use otp_spec::ChildSpec;
 use std::alloc::Global;
 use std::marker::Model;
@@ -109,6 +109,16 @@ impl<B: Drop> Letter<B> {
             body,
             end: None,
         })
+    }
+
+    /// The end that it tells, if it is the note of a supervisor's end.
+    pub fn end(&self) -> Option<&SupEnd>
+        ensures { option_copied result ≡ self.now.end }
+    {
+        match &self.end {
+            Some(end) => Some(end.end()),
+            None => None,
+        }
     }
 
     /// What it says, its body, and the end that it tells.

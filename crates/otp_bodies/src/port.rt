@@ -7,26 +7,31 @@ ghost use Rattle.otp_bodies.specs.declared.port.Launched.{Launched};
 ghost use Rattle.otp_bodies.specs.declared.port.ToldNote.{ToldNote};
 
 use crate::told::{Evidence, evidence_of};
-use otp_reason::Note;
+use otp_reason::{Name, Note};
 use otp_rules::SupEnd;
 use otp_tally::Tally;
 use std::alloc::Global;
 
-/// A process that is to run: its number, the slot of its signal word, and its body.
+/// A process that is to run: its number, the slot of its signal word, the id of its child, whether that had a process before (since
+/// its supervisor opened), and its body.
 ///
 /// Each process that a supervisor puts has its body: that of its child, which was at home until then.
 #[derive(Drop)]
 pub struct NewProcess<B> {
     pub number: u64,
     pub slot: usize,
+    pub id: Option<Name>,
+    pub again: bool,
     pub body: Option<B>,
 }
 
-/// What contracts say of a process that a port took: its number, its slot, and whether it had a body.
+/// What contracts say of a process that a port took: its number, its slot, whose it is, and whether it had a body.
 #[derive(Clone, Copy, Debug, PartialEq, Eq)]
 pub struct Launched {
     pub number: u64,
     pub slot: usize,
+    pub id: Option<Name>,
+    pub again: bool,
     pub body: bool,
 }
 
@@ -63,7 +68,7 @@ pub trait Port<B: Drop> {
 
     /// Takes a process. A refused one comes back.
     fn put(&mut self, process: NewProcess<B>) -> Result<(), NewProcess<B>>
-        ensures took { OnOk result (processes self.new ≡ processes self.old ++ launched process.number process.slot (is_some process.body) ∷ []) }
+        ensures took { OnOk result (processes self.new ≡ processes self.old ++ launched process.number process.slot process.id process.again (is_some process.body) ∷ []) }
         ensures kept { OnErr result (processes self.new ≡ processes self.old) }
         ensures refused { OnErr result (refusals self.old < refusals self.new) }
         ensures counted { OnOk result (refusals self.new ≡ refusals self.old) }
@@ -82,6 +87,10 @@ pub trait Port<B: Drop> {
         ensures counted { OnOk result (refusals self.new ≡ refusals self.old) }
         ensures processes { processes self.new ≡ processes self.old }
         ensures beside { beside self.new ≡ beside self.old };
+
+    /// Hears that a shutdown or a kill was posted to this slot. Whoever lets threads sleep wakes by it the one in which the process of
+    /// the slot waits. It needn't be written: by default nothing is done.
+    fn posted(&self, _slot: usize) {}
 }
 
 /// A port that keeps what it takes, for whoever drives supervisors by hand. It refuses where memory is refused.
@@ -122,7 +131,7 @@ impl<B: Drop> Port<B> for MemoryPort<B> {
     ghost beside = { λ _. [] };
 
     fn put(&mut self, process: NewProcess<B>) -> Result<(), NewProcess<B>>
-        ensures took { OnOk result (launched_all self.new.processes.items ≡ launched_all self.old.processes.items ++ launched process.number process.slot (is_some process.body) ∷ []) }
+        ensures took { OnOk result (launched_all self.new.processes.items ≡ launched_all self.old.processes.items ++ launched process.number process.slot process.id process.again (is_some process.body) ∷ []) }
         ensures kept { OnErr result (launched_all self.new.processes.items ≡ launched_all self.old.processes.items) }
         ensures refused { OnErr result (self.old.refusals.count < self.new.refusals.count) }
         ensures counted { OnOk result (self.new.refusals.count ≡ self.old.refusals.count) }

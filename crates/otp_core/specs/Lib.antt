@@ -1,4 +1,5 @@
 pub mod View
+pub mod Again
 pub mod CoreInside
 pub mod Opened
 pub mod Replies

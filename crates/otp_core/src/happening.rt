@@ -77,7 +77,7 @@ impl Core {
         ensures why { IfErr result (IsEventFault self.old) }
     {
         self.make_ready(limit)?;
-        Ok(self.step_with(reading, kind, numbers))
+        Ok(self.step_with(reading, &kind, numbers))
     }
 
     /// Takes the memory of the next event, and makes room for it.

@@ -2,6 +2,7 @@
 
 ghost use Rattle.std.specs.Prelude.{ℕ, All, ◌≡◌, ◌+◌, ◌-◌, ◌<◌, ◌≤◌, ◌^◌, ◌↔◌, ◌++◌, ◌∷◌, [], true, false, length, not, is_some, is_none, nat_lt, max, min, IsTrue, None, Some, IfOk, IfErr, OnOk, OnErr, MatchOption, position, slice_get, vec_len, vec_capacity};
 ghost use Rattle.std.specs.List.{filter, list_any};
+ghost use Rattle.otp_core.specs.Again.{starts_again};
 ghost use Rattle.otp_core.specs.View.{new_core, past_of, state_of, stored_of, stored_state};
 ghost use Rattle.otp_core.specs.Opened.{IsOpenFault};
 ghost use Rattle.otp_core.specs.Full.{cut_after, has_most_events, has_most_lines, is_full, wants_cut};
@@ -37,7 +38,7 @@ use otp_decisions::effects::{count_orders, move_orders};
 use otp_decisions::next::{has_late, next_deadline};
 use otp_decisions::state::{answers_call, is_over, own_number};
 use otp_machine::{Given, Machine, Numbers};
-use otp_rules::{CountsNow, Effect, Event, Kind, Phase, Reply, SupEnd, Waiting, laws};
+use otp_rules::{CountsNow, Effect, Event, Kind, Phase, Reply, Sequel, SupEnd, Waiting, laws};
 use otp_spec::{ChildSpec, MAX_EVENTS, SupFlags, SupSpec, check_supervisor, copy_specs};
 use otp_stores::answers::{Answers, greater_of};
 use otp_stores::history::History;
@@ -359,6 +360,17 @@ impl Core {
         self.machine.follows.is_some()
     }
 
+    /// Whether children are being started that had processes before, since the supervisor opened: by a restart, also that of another
+    /// child, or by restart_child.
+    pub fn starts_again(&self) -> bool
+        ensures { result ≡ starts_again (state_of self.now).follows }
+    {
+        matches!(
+            self.machine.follows,
+            Some(Sequel::Nothing | Sequel::Restarted(_))
+        )
+    }
+
     /// Whether the supervisor was never opened, or has ended.
     pub fn has_ended(&self) -> bool
         ensures { result ≡ is_over (state_of self.now).phase }
@@ -652,25 +664,25 @@ impl Core {
     pub fn step_with<N: Numbers>(
         &mut self,
         reading: u64,
-        kind: Kind,
+        kind: &Kind,
         numbers: &mut N,
     ) -> Option<u64>
         requires prepared { IsTrue self.old.prepared }
         requires room { is_full self.old ≡ false }
         requires reading { reading ≤ MAX_READING }
-        requires number { IsTrue (needs_number (state_of self.old) reading kind) → N.can_give numbers.old }
+        requires number { IsTrue (needs_number (state_of self.old) reading kind.now) → N.can_give numbers.old }
         requires rises { (n : ℕ) (after : N) → N.gives numbers.old n after → All (λ m. m < n) (numbers_of self.old.history) }
-        ensures number { is_some result ≡ needs_number (state_of self.old) reading kind }
+        ensures number { is_some result ≡ needs_number (state_of self.old) reading kind.now }
         ensures drawn { MatchOption result (numbers.new ≡ numbers.old) (λ n. N.gives numbers.old n numbers.new) }
         ensures base { self.new.base ≡ self.old.base }
         ensures earlier { self.new.earlier ≡ self.old.earlier }
         ensures cut { self.new.cut ≡ self.old.cut }
-        ensures history { self.new.history ≡ self.old.history ++ record { reading = reading; number = result; kind = kind } ∷ [] }
-        ensures stored { stored_of self.new ≡ stored_of self.old ++ record { reading = reading; number = result; kind = kind } ∷ [] }
-        ensures effects { self.new.effects ≡ self.old.effects ++ (step (state_of self.old) (record { reading = reading; number = result; kind = kind })).orders }
+        ensures history { self.new.history ≡ self.old.history ++ record { reading = reading; number = result; kind = kind.now } ∷ [] }
+        ensures stored { stored_of self.new ≡ stored_of self.old ++ record { reading = reading; number = result; kind = kind.now } ∷ [] }
+        ensures effects { self.new.effects ≡ self.old.effects ++ (step (state_of self.old) (record { reading = reading; number = result; kind = kind.now })).orders }
         ensures prepared { self.new.prepared ≡ false }
         // The answers that its orders tell of are kept.
-        ensures answers { All (IsKept self.new) (step (state_of self.old) (record { reading = reading; number = result; kind = kind })).orders }
+        ensures answers { All (IsKept self.new) (step (state_of self.old) (record { reading = reading; number = result; kind = kind.now })).orders }
     {
         laws::answers_are_told();
         laws::step_keeps_plan();
@@ -678,10 +690,10 @@ impl Core {
         laws::step_keeps_stamped();
         laws::orders_are_appended();
         laws::cuts_agree();
-        let number = self.machine.step(reading, &kind, numbers);
+        let number = self.machine.step(reading, kind, numbers);
         self.last_number = number.unwrap_or(self.last_number);
         self.starts += one_if(number.is_some());
-        self.history.push(reading, number, &kind);
+        self.history.push(reading, number, kind);
         self.prepared = false;
         number
     }
@@ -706,7 +718,7 @@ impl Core {
         let mut given = Given {
             number: event.number,
         };
-        let _ = self.step_with(event.reading, event.kind, &mut given);
+        let _ = self.step_with(event.reading, &event.kind, &mut given);
     }
 }
 

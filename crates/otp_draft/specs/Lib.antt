@@ -5,3 +5,4 @@ pub mod Faults
 pub mod Drawings
 pub mod Inside
 pub mod Kinds
+pub mod Paths

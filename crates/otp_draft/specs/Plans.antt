@@ -1,5 +1,5 @@
 -- One supervisor of a tree that is planned. (own)
-use Rattle.std.specs.Prelude.{ℕ, ◌+◌, ◌<◌, ⊤, List, [], ◌∷◌, length, map, if◌then◌else◌}
+use Rattle.std.specs.Prelude.{◌≡◌, ℕ, ◌+◌, ◌<◌, ⊤, List, [], ◌∷◌, length, map, if◌then◌else◌}
 use Rattle.otp_job.specs.declared.body.Body.{Body}
 use Rattle.otp_job.specs.declared.body.Body.TheVariants as body
 use Rattle.otp_spec.specs.Flags.{is_simple}
@@ -40,6 +40,10 @@ module _ {J S : Type 0} where
   abbrev pub numbered : ℕ → List (Planned J S) → List (Planned J S)
   numbered number [] = []
   numbered number (plan ∷ plans) = numbered_one number plan ∷ numbered (number + 1) plans
+
+  -- the plan has a body for each child that its supervisor starts
+  abbrev pub HasAllBodies : TablePlan J S → Type 0
+  HasAllBodies plan = length plan.bodies.items ≡ wanted plan.supervisor.flags plan.supervisor.specs
 
   -- what a plan says
   abbrev pub seen : TablePlan J S → Planned J S

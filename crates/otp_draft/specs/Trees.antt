@@ -5,21 +5,23 @@ use Rattle.otp_job.specs.declared.body.Body.TheVariants as body
 use Rattle.otp_spec.specs.declared.child.ChildSpec.{ChildSpec}
 use Rattle.otp_spec.specs.declared.flags.SupFlags.{SupFlags}
 use Rattle.otp_draft.specs.Plans.{Planned}
+use Rattle.otp_draft.specs.declared.paths.Nested.{Nested}
 
 -- its flags, the specifications of its children in start order, and what they run; then all supervisors below it, each
 -- before those below its own children. A child that is a supervisor is known by how many places that stands behind its
--- parent. And how many levels of supervisors there are
+-- parent. Then which child of which parent each of those below is, and how many levels of supervisors there are
 pub record Tree (J S : Type 0) : Type 0 where
   pub flags : SupFlags
   pub specs : List ChildSpec
   pub bodies : List (Body J S)
   pub below : List (Planned J S)
+  pub nested : List Nested
   pub depth : ℕ
 
 module _ {J S : Type 0} where
   -- a supervisor without children
   abbrev pub alone : SupFlags → Tree J S
-  alone flags = record { flags = flags; specs = []; bodies = []; below = []; depth = 1 }
+  alone flags = record { flags = flags; specs = []; bodies = []; below = []; nested = []; depth = 1 }
 
   -- how many supervisors there are
   abbrev pub size : Tree J S → ℕ
@@ -36,6 +38,7 @@ module _ {J S : Type 0} where
     specs = t.specs ++ spec ∷ [];
     bodies = t.bodies ++ runs ∷ [];
     below = t.below;
+    nested = t.nested;
     depth = t.depth;
   }
 
@@ -46,6 +49,7 @@ module _ {J S : Type 0} where
     specs = t.specs ++ spec ∷ [];
     bodies = t.bodies;
     below = t.below;
+    nested = t.nested;
     depth = t.depth;
   }
 
@@ -56,5 +60,6 @@ module _ {J S : Type 0} where
     specs = t.specs ++ spec ∷ [];
     bodies = t.bodies ++ body.Sup (size t) ∷ [];
     below = t.below ++ plans_of sub;
+    nested = t.nested ++ record { id = spec.id; behind = size t } ∷ sub.nested;
     depth = max t.depth (sub.depth + 1);
   }

@@ -1,11 +1,12 @@
 //! A tree is drawn up by value, supervisor by supervisor.
-ghost use Rattle.std.specs.Prelude.{◌≡◌, ◌+◌, ◌<◌, ◌≤◌, ◌==◌, ◌++◌, ◌∷◌, All, [], None, Some, IfErr, IfNone, IfOk, OnErr, OnOk, length, true, false, vec_capacity};
+ghost use Rattle.std.specs.Prelude.{◌≡◌, ◌+◌, ◌<◌, ◌≤◌, ◌==◌, ◌++◌, ◌∷◌, All, [], None, Some, IfErr, IfNone, IfOk, OnErr, OnOk, length, position, slice_get, true, false, vec_capacity};
 ghost use Rattle.otp_spec.specs.Flags.{is_simple};
 ghost use Rattle.otp_spec.specs.Supervisor.{IsLawful, supervisor_fault};
 ghost use Rattle.otp_spec.specs.declared.limits.TheConstants.{MAX_CHILDREN, MAX_TABLES};
 ghost use Rattle.otp_draft.specs.Children.{spec_of};
 ghost use Rattle.otp_draft.specs.Faults.{IsOfDraft, MayBeOpened, add_fault, finish_fault, kind_fault, is_infinity, is_supervisor, is_template, limit_fault, nest_fault, runs_fault, spec_fault, with_child, with_runs, worker_fault};
 ghost use Rattle.otp_draft.specs.Kinds.{bridge_of, supervisor_of, template_of, worker_of};
+ghost use Rattle.otp_draft.specs.Paths.{has_path, prefixes_of};
 ghost use Rattle.otp_draft.specs.Plans.{IsNear};
 ghost use Rattle.otp_draft.specs.Trees.{alone, plans_of, size, with_body, with_template, with_tree};
 ghost use Rattle.otp_draft.specs.declared.limits.TheConstants.{MAX_DEPTH};
@@ -13,6 +14,7 @@ ghost use Rattle.otp_draft.specs.declared.limits.TheConstants.{MAX_DEPTH};
 use crate::child::{Child, Runs};
 use crate::fault::{DraftFault, Refused};
 use crate::limits::MAX_DEPTH;
+use crate::paths::{Nested, TreePath, find_path, paths_of};
 use crate::plan::{PlannedTable, TreePlan};
 use otp_bridge::{BoxedSubsystem, Bridge};
 use otp_job::{Body, TableNo};
@@ -40,6 +42,7 @@ pub struct TreeDraft<J: Drop, S: Drop = BoxedSubsystem> {
     specs: Vec<ChildSpec>,
     bodies: Vec<Body<J, S>>,
     below: Vec<PlannedTable<J, S>>,
+    nested: Vec<Nested>,
     depth: usize,
 }
 
@@ -49,9 +52,9 @@ impl<J: Drop, S: Drop> Model for TreeDraft<J, S> {
 
     ghost Value = { Tree J S };
 
-    ghost view = { λ d. record { flags = d.flags; specs = d.specs.items; bodies = d.bodies.items; below = d.below.items; depth = d.depth } };
+    ghost view = { λ d. record { flags = d.flags; specs = d.specs.items; bodies = d.bodies.items; below = d.below.items; nested = d.nested.items; depth = d.depth } };
 
-    ghost invariant = { λ d. IsDraft d.flags d.specs.items d.bodies.items d.below.items d.depth };
+    ghost invariant = { λ d. IsDraft d.flags d.specs.items d.bodies.items d.below.items d.nested.items d.depth };
 }
 
 /// The fault that says why no supervisor may have these flags and specifications.
@@ -117,6 +120,7 @@ impl<J: Drop, S: Drop> TreeDraft<J, S> {
             specs: Vec::new(alloc),
             bodies: Vec::new(alloc),
             below: Vec::new(alloc),
+            nested: Vec::new(alloc),
             depth: 1,
         }
     }
@@ -136,6 +140,51 @@ impl<J: Drop, S: Drop> TreeDraft<J, S> {
         ensures few { result ≤ MAX_DEPTH }
     {
         self.depth
+    }
+
+    /// The paths of its supervisors, by the numbers that they have once the tree is run: in the order of the walk, each before those
+    /// below its own children. The supervisors of a report stand in this order too.
+    ///
+    /// # Errors
+    ///
+    /// Where memory is refused.
+    pub fn paths(&self, alloc: Global) -> Result<Vec<TreePath>, AllocError>
+        ensures { IfOk result (λ paths. paths.items ≡ prefixes_of self.now) }
+    {
+        paths_of(alloc, self.nested.as_slice())
+    }
+
+    /// The path of the supervisor with this number; None where there are fewer.
+    ///
+    /// # Errors
+    ///
+    /// Where memory is refused.
+    pub fn path_of(&self, alloc: Global, number: usize) -> Result<Option<TreePath>, AllocError>
+        ensures { IfOk result (λ path. path ≡ slice_get (prefixes_of self.now) number) }
+    {
+        let mut paths = self.paths(alloc)?;
+        let path = if number < paths.len() {
+            Some(paths.swap_remove(number))
+        } else {
+            None
+        };
+        drop(paths);
+        Ok(path)
+    }
+
+    /// The number of the supervisor with this path, as `pool/cache`; the root's is `root`. Where ids have slashes, so that several
+    /// have it, the first of them.
+    ///
+    /// # Errors
+    ///
+    /// Where memory is refused.
+    pub fn table_of(&self, alloc: Global, path: &str) -> Result<Option<usize>, AllocError>
+        ensures { IfOk result (λ number. number ≡ position (has_path path.now) (prefixes_of self.now)) }
+    {
+        let paths = self.paths(alloc)?;
+        let number = find_path(paths.as_slice(), path);
+        drop(paths);
+        Ok(number)
     }
 
     /// How many children the supervisor has.
@@ -260,6 +309,7 @@ impl<J: Drop, S: Drop> TreeDraft<J, S> {
         if self.specs.reserve(1).is_err()
             || self.bodies.reserve(1).is_err()
             || self.below.reserve(more).is_err()
+            || self.nested.reserve(more).is_err()
         {
             return Err(tree);
         }
@@ -268,14 +318,18 @@ impl<J: Drop, S: Drop> TreeDraft<J, S> {
             specs,
             bodies,
             below,
+            nested,
             depth,
         } = tree;
-        let ahead = TableNo::new(self.below.len() + 1);
+        let behind = self.below.len() + 1;
+        let id = spec.id;
         self.specs.push_reserved(spec);
-        put_near(&mut self.bodies, Body::Sup(ahead));
+        put_near(&mut self.bodies, Body::Sup(TableNo::new(behind)));
         self.below
             .push_reserved(PlannedTable::new(SupSpec::new(flags, specs), bodies));
         put_behind(&mut self.below, below);
+        self.nested.push_reserved(Nested { id, behind });
+        put_behind(&mut self.nested, nested);
         self.depth = self.depth.max(depth + 1);
         Ok(())
     }
@@ -494,8 +548,10 @@ impl<J: Drop, S: Drop> TreeDraft<J, S> {
             specs,
             bodies,
             below,
+            nested,
             depth: _,
         } = self;
+        drop(nested);
         tables.push_reserved(PlannedTable::new(SupSpec::new(flags, specs), bodies));
         put_behind(&mut tables, below);
         Ok(TreePlan::new(tables, room))

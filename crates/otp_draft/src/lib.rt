@@ -13,7 +13,7 @@
 //!
 //! The plan has the supervisors in one list, the root first, each before those below its own children
 //! ([`TreePlan::numbered`] gives them their numbers). That this is so of every tree, however it was drawn up, says
-//! [`laws::trees_are_walked`].
+//! [`laws::trees_are_walked`]. [`TreeDraft::paths`] has the path of each, in the same order.
 #![tactic(auto)]
 
 pub mod child;
@@ -21,10 +21,12 @@ pub mod draft;
 pub mod fault;
 pub mod laws;
 pub mod limits;
+pub mod paths;
 pub mod plan;
 
 pub use child::{Child, ChildKeys, Runs};
 pub use draft::TreeDraft;
 pub use fault::{DraftFault, Refused};
 pub use limits::MAX_DEPTH;
+pub use paths::{Nested, TreePath, find_path};
 pub use plan::{TablePlan, TreePlan};

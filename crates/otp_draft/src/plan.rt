@@ -1,7 +1,7 @@
 //! The supervisors of a tree in one list.
-ghost use Rattle.std.specs.Prelude.{◌≡◌, ◌+◌, ◌<◌, ◌≤◌, All, [], length, map, vec_capacity};
+ghost use Rattle.std.specs.Prelude.{◌≡◌, ◌+◌, ◌<◌, ◌≤◌, ◌++◌, ◌∷◌, All, [], length, map, vec_capacity, vec_len};
 ghost use Rattle.otp_spec.specs.declared.limits.TheConstants.{MAX_TABLES};
-ghost use Rattle.otp_draft.specs.Plans.{IsNear, body_at, numbered, numbered_one, seen, wanted};
+ghost use Rattle.otp_draft.specs.Plans.{HasAllBodies, IsNear, body_at, numbered, numbered_one, seen, wanted};
 
 use otp_job::{Body, TableNo};
 use otp_spec::SupSpec;
@@ -50,7 +50,8 @@ impl<J: Drop, S: Drop> PlannedTable<J, S> {
     /// The supervisor under its number. Takes no memory.
     fn numbered(self, number: usize) -> TablePlan<J, S>
         requires { number < MAX_TABLES }
-        ensures { seen result ≡ numbered_one number self }
+        ensures plan { seen result ≡ numbered_one number self }
+        ensures bodies { HasAllBodies result }
     {
         let PlannedTable {
             supervisor,
@@ -143,10 +144,25 @@ impl<J: Drop, S: Drop> TreePlan<J, S> {
         requires { first + length self ≤ MAX_TABLES }
         ensures plans { map seen result.items ≡ numbered first self }
         ensures count { length result.items ≡ length self }
+        // Each has a body for each child that it starts.
+        ensures bodies { All HasAllBodies result.items }
     {
         let TreePlan { tables, room } = self;
         number_all(tables, room, first)
     }
+}
+
+/// Puts a supervisor behind the others, for which there is room.
+fn put_plan<J: Drop, S: Drop>(plans: &mut Vec<TablePlan<J, S>>, plan: TablePlan<J, S>)
+    requires full { All HasAllBodies plans.old.items }
+    requires plan { HasAllBodies plan }
+    requires room { vec_len plans.old < vec_capacity plans.old }
+    ensures plans { plans.new.items ≡ plans.old.items ++ plan ∷ [] }
+    ensures full { All HasAllBodies plans.new.items }
+    ensures len { vec_len plans.new ≡ vec_len plans.old + 1 }
+    ensures capacity { vec_capacity plans.new ≡ vec_capacity plans.old }
+{
+    plans.push_reserved(plan);
 }
 
 /// Supervisors under their numbers, from this one on.
@@ -160,11 +176,12 @@ fn number_all<J: Drop, S: Drop>(
     requires room { length tables.items ≤ vec_capacity room }
     ensures plans { map seen result.items ≡ numbered first tables.items }
     ensures count { length result.items ≡ length tables.items }
+    ensures bodies { All HasAllBodies result.items }
 {
     let mut plans = room;
     let mut number = first;
     for table in tables {
-        plans.push_reserved(table.numbered(number));
+        put_plan(&mut plans, table.numbered(number));
         number += 1;
     }
     plans

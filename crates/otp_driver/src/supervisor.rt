@@ -97,7 +97,7 @@ fn row_with(rows: &[Row], place: usize, number: u64) -> Option<&Row>
 }
 
 /// Something happens to a core, of which only the last events are kept while no order waits. The answer is the last process
-/// number then. It is [`Core::happen`] by its parts: so the event, which is large, is copied once.
+/// number then. It is [`Core::happen`] by its parts: so the event, which is large, is not copied.
 fn happen(core: &mut Core, reading: u64, kind: &Kind, last: u64) -> Result<u64, DriveFault>
     requires reading { reading ≤ MAX_READING }
     requires last { last < MAX_READING }
@@ -115,7 +115,7 @@ fn happen(core: &mut Core, reading: u64, kind: &Kind, last: u64) -> Result<u64, 
         return Err(fault_of(cause));
     }
     let mut numbers = Counter { last };
-    let _ = core.step_with(reading, *kind, &mut numbers);
+    let _ = core.step_with(reading, kind, &mut numbers);
     Ok(numbers.last)
 }
 

@@ -53,7 +53,7 @@ one_if false = 0
 
 -- a process that was put, as a port tells it
 abbrev pub launched_of : Ticket → Launched
-launched_of t = launched t.number t.slot true
+launched_of t = launched t.number t.slot t.id t.again true
 
 -- the note that a letter brings, with the end that it tells
 abbrev pub notes_in : Item → Option SupEnd → List ToldNote

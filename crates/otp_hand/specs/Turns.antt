@@ -55,7 +55,7 @@ module _ {J S : Type 0} where
   -- the letter in which a process tells its supervisor a note, with the body that goes home
   abbrev pub unsent_by : Ticket → Note → Option (Body J S) → Unsent J S
   unsent_by ticket note body = record {
-    table = ticket.table;
+    ticket = ticket;
     letter = record { item = item.Note note; body = body; end = None };
     note = note;
   }

@@ -31,6 +31,8 @@ pub struct Around {
     stock: u32,
     // How many turns ago the last came back of those that stand aside.
     passed_by: u32,
+    // Whether jobs that were told something have their turns by way of the deque.
+    is_crowd: bool,
 }
 
 impl Model for Around {
@@ -51,6 +53,7 @@ impl Around {
             theft_pause: 0,
             stock: 0,
             passed_by: 0,
+            is_crowd: false,
         }
     }
 
@@ -95,6 +98,16 @@ impl Around {
         let is_time = self.stock < ENOUGH || PATIENCE <= turns;
         self.passed_by = if is_time { 0 } else { turns };
         is_time
+    }
+
+    /// Whether there is so much to do here that other hands may take what was told something.
+    pub fn is_crowd(&self) -> bool {
+        self.is_crowd
+    }
+
+    /// Notes whether there is.
+    pub fn note_crowd(&mut self, is_crowd: bool) {
+        self.is_crowd = is_crowd;
     }
 
     /// Whether it is to try the other deques too.
@@ -148,6 +161,13 @@ impl Around {
         match &self.post {
             Some(post) => post.is_woken(slot),
             None => false,
+        }
+    }
+
+    /// Wakes the process that has this slot, in whichever hand it waits.
+    pub fn wake(&self, slot: usize) {
+        if let Some(post) = &self.post {
+            post.wake(slot);
         }
     }
 

@@ -24,7 +24,7 @@ pub fn count_held<J: Drop, S: Drop>(unsent: Option<Unsent<J, S>>) -> u64
 {
     let Some(
         Unsent {
-            table: _,
+            ticket: _,
             letter,
             note: _,
         },

@@ -69,6 +69,15 @@ impl<N: TreeNaming, J: Drop, S: Drop> Hand<N, J, S> {
         self.runner.around.is_to_try_others();
     }
 
+    /// The next searches leave the deques of all other hands alone.
+    pub fn spare_others(&mut self)
+        ensures unsent { self.new.unsent ≡ self.old.unsent }
+        ensures passes { self.new.passes ≡ self.old.passes }
+        ensures standing { standing_of self.new ≡ standing_of self.old }
+    {
+        self.runner.around.tried_in_vain();
+    }
+
     /// Whether a search may find something at this reading of the clock, though nothing has changed since one that gave nothing: a
     /// deadline has come, something was refused for want of memory, or it is time to try the deques of other hands again.
     pub fn may_find(&mut self, reading: u64) -> bool
@@ -81,6 +90,16 @@ impl<N: TreeNaming, J: Drop, S: Drop> Hand<N, J, S> {
         }
         let due = self.runner.resting.next_due();
         self.runner.around.is_worth_a_search(due, reading)
+    }
+
+    /// Notes whether there is so much to do here that other hands may take jobs that were told something: then these have their turns by
+    /// way of the deque.
+    pub fn note_crowd(&mut self, is_crowd: bool)
+        ensures unsent { self.new.unsent ≡ self.old.unsent }
+        ensures passes { self.new.passes ≡ self.old.passes }
+        ensures standing { standing_of self.new ≡ standing_of self.old }
+    {
+        self.runner.around.note_crowd(is_crowd);
     }
 
     /// How many processes its own deque has at most, which other hands might take.

@@ -14,7 +14,7 @@ use crate::places::put_into;
 use crate::resting::{Rested, Resting};
 use crate::waiting::Waiting;
 use otp_bridge::Subsystem;
-use otp_job::{After, Body, EndNote, Job, Process, Spent, TableNo, one_turn_at};
+use otp_job::{After, Body, EndNote, Job, Process, Spent, TableNo, Ticket, one_turn_at};
 use otp_reason::Note;
 use otp_rules::SupEnd;
 use otp_run::{RunNaming, SHARE_LIMIT, Scheduler};
@@ -24,10 +24,10 @@ use otp_tally::Tally;
 use std::alloc::Global;
 use std::marker::Model;
 
-/// A letter that was not sent yet, the number of the supervisor to which it goes, and the note that it brings.
+/// A letter that was not sent yet, of the process with this ticket, to whose supervisor it goes, and the note that it brings.
 #[derive(Drop)]
 pub struct Unsent<J: Drop, S: Drop> {
-    pub table: usize,
+    pub ticket: Ticket,
     pub letter: Letter<Body<J, S>>,
     pub note: Note,
 }
@@ -77,7 +77,7 @@ impl<N: WordsNaming + RunNaming, J: Drop, S: Drop> Port<Body<J, S>> for Runner<N
     ghost beside = { λ r. beside_of r };
 
     fn put(&mut self, process: NewProcess<Body<J, S>>) -> Result<(), NewProcess<Body<J, S>>>
-        ensures took { OnOk result (map launched_of self.new.scheduler.own.puts ≡ map launched_of self.old.scheduler.own.puts ++ launched process.number process.slot (is_some process.body) ∷ []) }
+        ensures took { OnOk result (map launched_of self.new.scheduler.own.puts ≡ map launched_of self.old.scheduler.own.puts ++ launched process.number process.slot process.id process.again (is_some process.body) ∷ []) }
         ensures kept { OnErr result (map launched_of self.new.scheduler.own.puts ≡ map launched_of self.old.scheduler.own.puts) }
         ensures refused { OnErr result (self.old.refusals < self.new.refusals) }
         ensures counted { OnOk result (self.new.refusals ≡ self.old.refusals) }
@@ -85,19 +85,34 @@ impl<N: WordsNaming + RunNaming, J: Drop, S: Drop> Port<Body<J, S>> for Runner<N
         ensures notes { notes_by self.new ≡ notes_by self.old }
         ensures beside { beside_of self.new ≡ beside_of self.old }
         // The process belongs to the supervisor whose turn it is.
-        ensures table { OnOk result (self.new.scheduler.own.puts ≡ self.old.scheduler.own.puts ++ record { number = process.number; slot = process.slot; table = table_nested self.old.turning } ∷ []) }
+        ensures table { OnOk result (self.new.scheduler.own.puts ≡ self.old.scheduler.own.puts ++ record { number = process.number; slot = process.slot; table = table_nested self.old.turning; id = process.id; again = process.again } ∷ []) }
     {
-        let NewProcess { number, slot, body } = process;
+        let NewProcess {
+            number,
+            slot,
+            id,
+            again,
+            body,
+        } = process;
         let Some(body) = body else {
             self.refusals.raise();
             return Err(NewProcess {
                 number,
                 slot,
+                id,
+                again,
                 body: None,
             });
         };
         let table = nested_in(&self.turning);
-        let body = match Process::new(self.alloc, number, slot, table, body) {
+        let ticket = Ticket {
+            number,
+            slot,
+            table,
+            id,
+            again,
+        };
+        let body = match Process::of(self.alloc, ticket, body) {
             Ok(process) => match self.scheduler.put(process) {
                 Ok(()) => {
                     self.around.gained();
@@ -108,7 +123,13 @@ impl<N: WordsNaming + RunNaming, J: Drop, S: Drop> Port<Body<J, S>> for Runner<N
             Err(body) => Some(body),
         };
         self.refusals.raise();
-        Err(NewProcess { number, slot, body })
+        Err(NewProcess {
+            number,
+            slot,
+            id,
+            again,
+            body,
+        })
     }
 
     fn send(&mut self, note: Note, end: Option<&SupEnd>) -> Result<(), Note>
@@ -129,6 +150,11 @@ impl<N: WordsNaming + RunNaming, J: Drop, S: Drop> Port<Body<J, S>> for Runner<N
         }
         self.refusals.raise();
         Err(note)
+    }
+
+    /// A signal wakes the process for which it was posted, as a waker does.
+    fn posted(&self, slot: usize) {
+        self.around.wake(slot);
     }
 }
 
@@ -170,7 +196,7 @@ impl<N: WordsNaming + RunNaming, J: Drop, S: Drop> Runner<N, J, S> {
         requires whole { is_some (option_copied end) ≡ is_end_note note }
         ensures item { IfSome result (λ u. u.letter.item ≡ item.Note note) }
         // It goes to the supervisor to which the process belongs.
-        ensures table { IfSome result (λ u. u.table ≡ table_above self.old.turning) }
+        ensures table { IfSome result (λ u. u.ticket.table ≡ table_above self.old.turning) }
         ensures end { IfSome result (λ u. u.letter.end ≡ option_copied end.entry) }
         // Where it brings the supervisor's number home it has its end, and else it has none.
         ensures home { IfSome result (λ u. is_some u.letter.end ≡ is_some u.letter.body) }
@@ -182,7 +208,7 @@ impl<N: WordsNaming + RunNaming, J: Drop, S: Drop> Runner<N, J, S> {
         ensures ended { self.new.scheduler.ended ≡ self.old.scheduler.ended + ends_held result }
     {
         let process = self.turning.take()?;
-        let table = process.table();
+        let ticket = process.ticket();
         let Ok(end) = evidence_of(self.alloc, note, end) else {
             put_into(&mut self.turning, Some(process));
             return None;
@@ -191,7 +217,7 @@ impl<N: WordsNaming + RunNaming, J: Drop, S: Drop> Runner<N, J, S> {
             put_into(&mut self.turning, Some(process));
             let letter = Letter::with_end(note, None, end);
             return Some(Unsent {
-                table,
+                ticket,
                 letter,
                 note,
             });
@@ -205,7 +231,7 @@ impl<N: WordsNaming + RunNaming, J: Drop, S: Drop> Runner<N, J, S> {
                 self.scheduler.finish(remains);
                 let letter = Letter::with_end(note, Some(Body::Sup(number)), end);
                 let unsent = Unsent {
-                    table,
+                    ticket,
                     letter,
                     note,
                 };
@@ -235,8 +261,38 @@ impl<N: WordsNaming + RunNaming, J: Drop, S: Drop> Runner<N, J, S> {
         put_into(&mut self.turning, Some(rested.process));
     }
 
-    /// Gives its turn to a job that waits, or stands aside, and was told something, if it is one of those that are looked at now.
+    /// Gives its turn to a job that waits, or stands aside, and was told something, if it is one of those that are looked at now. In a
+    /// crowd the first goes into the deque, where other hands find it, and it is the next one's turn.
     pub fn wake_told(&mut self, words: &Words<N>)
+        requires { self.old.turning ≡ None }
+        ensures unsent { self.new.unsent ≡ self.old.unsent }
+        ensures begun { NoneBegan self.old.scheduler self.new.scheduler }
+        ensures ended { NoneEnded self.old.scheduler self.new.scheduler }
+    {
+        self.take_told(words);
+        if self.around.is_crowd() {
+            self.offer();
+            if self.turning.is_none() {
+                self.take_told(words);
+            }
+        }
+    }
+
+    /// Puts the process that it has out, if there is one, into its deque. Where it can't be put, it stays.
+    fn offer(&mut self)
+        ensures unsent { self.new.unsent ≡ self.old.unsent }
+        ensures begun { NoneBegan self.old.scheduler self.new.scheduler }
+        ensures ended { NoneEnded self.old.scheduler self.new.scheduler }
+    {
+        let Some(process) = self.turning.take() else {
+            return;
+        };
+        let back = put_again(&mut self.scheduler, &mut self.around, process);
+        put_into(&mut self.turning, back);
+    }
+
+    /// Gives its turn to a job that waits, or stands aside, and was told something, if it is one of those that are looked at now.
+    fn take_told(&mut self, words: &Words<N>)
         requires { self.old.turning ≡ None }
         ensures unsent { self.new.unsent ≡ self.old.unsent }
         ensures begun { NoneBegan self.old.scheduler self.new.scheduler }
@@ -306,6 +362,10 @@ impl<N: WordsNaming + RunNaming, J: Drop, S: Drop> Runner<N, J, S> {
         let Some(process) = self.turning.take() else {
             return;
         };
+        // Whoever posts a signal for it from now on finds this hand. One that was posted in its turn is found by this hand's look.
+        let _unwoken = self
+            .around
+            .begins_to_wait(process.slot(), self.scheduler.index());
         let rested = Rested {
             process,
             table,
@@ -476,7 +536,7 @@ impl<N: WordsNaming + RunNaming, J: Job, S: Subsystem> Runner<N, J, S> {
             put_into(&mut self.turning, Some(process));
             return;
         }
-        let table = process.ticket().table;
+        let ticket = process.ticket();
         self.around.take(process.slot());
         let after = one_turn_at(process, told, &self.around.site(reading));
         match after {
@@ -488,12 +548,12 @@ impl<N: WordsNaming + RunNaming, J: Job, S: Subsystem> Runner<N, J, S> {
             }
             After::Begun(process, note) => {
                 put_into(&mut self.turning, Some(process));
-                put_into(&mut self.unsent, Some(unsent_to(table, note, None)));
+                put_into(&mut self.unsent, Some(unsent_to(ticket, note, None)));
             }
             After::Done(end, spent) => {
                 self.scheduler.finish(spent);
                 let EndNote { note, body } = end;
-                put_into(&mut self.unsent, Some(unsent_to(table, note, Some(body))));
+                put_into(&mut self.unsent, Some(unsent_to(ticket, note, Some(body))));
             }
         }
     }
@@ -552,14 +612,14 @@ fn keep_waiting<J: Drop, S: Drop>(
 }
 
 /// The letter by which a process tells its supervisor this note. That of its end brings the body home.
-fn unsent_to<J: Drop, S: Drop>(table: usize, note: Note, body: Option<Body<J, S>>) -> Unsent<J, S>
+fn unsent_to<J: Drop, S: Drop>(ticket: Ticket, note: Note, body: Option<Body<J, S>>) -> Unsent<J, S>
     requires { carries_body (item.Note note) ≡ is_some body }
-    ensures letter { result ≡ record { table = table; letter = record { item = item.Note note; body = body; end = None }; note = note } }
+    ensures letter { result ≡ record { ticket = ticket; letter = record { item = item.Note note; body = body; end = None }; note = note } }
     ensures ends { ends_held (Some result) ≡ one_if (is_some body) }
 {
     let letter = Letter::note(note, body);
     Unsent {
-        table,
+        ticket,
         letter,
         note,
     }

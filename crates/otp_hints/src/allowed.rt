@@ -87,39 +87,22 @@ fn words_of(
 /// The words that a key may have.
 pub fn words_at(alloc: Global, key: Key) -> Result<Vec<&'static str>, AllocError> {
     match key {
-        Key::Flag(FlagKey::Strategy) => Vec::from_slice(
-            alloc,
-            &[
-                Strategy::OneForOne.word(),
-                Strategy::OneForAll.word(),
-                Strategy::RestForOne.word(),
-                Strategy::SimpleOneForOne.word(),
-            ],
-        ),
-        Key::Flag(FlagKey::AutoShutdown) => Vec::from_slice(
-            alloc,
-            &[
-                AutoShutdown::Never.word(),
-                AutoShutdown::AnySignificant.word(),
-                AutoShutdown::AllSignificant.word(),
-            ],
-        ),
-        Key::Child(ChildKey::Restart) => Vec::from_slice(
-            alloc,
-            &[
-                Restart::Permanent.word(),
-                Restart::Transient.word(),
-                Restart::Temporary.word(),
-            ],
-        ),
+        Key::Flag(FlagKey::Strategy) => {
+            Vec::from_slice(alloc, &Strategy::all().map(|strategy| strategy.word()))
+        }
+        Key::Flag(FlagKey::AutoShutdown) => {
+            Vec::from_slice(alloc, &AutoShutdown::all().map(|shutdown| shutdown.word()))
+        }
+        Key::Child(ChildKey::Restart) => {
+            Vec::from_slice(alloc, &Restart::all().map(|restart| restart.word()))
+        }
         Key::Child(ChildKey::Shutdown) => words_of(
             alloc,
             &[Shutdown::BrutalKill.word(), Shutdown::Infinity.word()],
         ),
-        Key::Child(ChildKey::Kind) => Vec::from_slice(
-            alloc,
-            &[ChildType::Worker.word(), ChildType::Supervisor.word()],
-        ),
+        Key::Child(ChildKey::Kind) => {
+            Vec::from_slice(alloc, &ChildType::all().map(|kind| kind.word()))
+        }
         Key::Child(ChildKey::Modules) => words_of(alloc, &[Modules::Dynamic.word()]),
         _ => Ok(Vec::new(alloc)),
     }

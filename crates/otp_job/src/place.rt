@@ -1,4 +1,5 @@
 //! Where a job runs.
+use otp_reason::Name;
 use otp_wake::{Post, Waker};
 use std::sync::Arc;
 
@@ -9,8 +10,10 @@ pub struct Place<'a> {
     pub number: u64,
     /// The slot of its signal word.
     pub slot: usize,
-    /// The number of its supervisor.
+    /// The number of its supervisor, in the order of the tree's plans.
     pub table: usize,
+    /// The id of the child that it is: with the path of its supervisor its own path. A dynamic child has none.
+    pub id: Option<Name>,
     /// The reading of the clock for this turn, in milliseconds.
     pub reading: u64,
     /// Where it is woken, if it runs where jobs can be woken.

@@ -1,8 +1,9 @@
-ghost use Rattle.std.specs.Prelude.{◌≡◌, ◌≢◌, ◌↔◌, Some, None, IsTrue, OnOk, OnErr, IfOk, IfErr, IsOk};
+ghost use Rattle.std.specs.Prelude.{◌≡◌, ◌≢◌, ◌↔◌, Some, None, false, IsTrue, OnOk, OnErr, IfOk, IfErr, IsOk};
 ghost use Rattle.otp_job.specs.Processes.{fresh_process, is_news, IsRunnable, nested_table_of};
 ghost use Rattle.otp_job.specs.declared.body.Body.TheVariants.{Sup};
 
 use crate::body::{Body, TableNo};
+use otp_reason::Name;
 use otp_signals::Signal;
 use std::alloc::Global;
 use std::marker::Model;
@@ -16,6 +17,10 @@ pub struct Ticket {
     pub slot: usize,
     /// The table of its supervisor, to which its notes go.
     pub table: usize,
+    /// The id of the child whose process it is. A dynamic one has none, nor has the root of a tree.
+    pub id: Option<Name>,
+    /// Whether the child had a process before, since its supervisor opened: then it is a restart.
+    pub again: bool,
 }
 
 /// How far a process has come.
@@ -58,7 +63,7 @@ impl<J: Drop, S: Drop> Model for Process<J, S> {
 }
 
 impl<J: Drop, S: Drop> Process<J, S> {
-    /// A process that has not started. Nothing is called. Refused where there is no memory; the body comes back.
+    /// The first process of a child without an id, which has not started: see [`Process::of`].
     pub fn new(
         alloc: Global,
         number: u64,
@@ -66,14 +71,24 @@ impl<J: Drop, S: Drop> Process<J, S> {
         table: usize,
         body: Body<J, S>,
     ) -> Result<Process<J, S>, Body<J, S>>
-        ensures made { IfOk result (λ process. process ≡ fresh_process (record { number = number; slot = slot; table = table }) body) }
+        ensures made { IfOk result (λ process. process ≡ fresh_process (record { number = number; slot = slot; table = table; id = None; again = false }) body) }
         ensures refused { IfErr result (λ back. back ≡ body) }
     {
         let ticket = Ticket {
             number,
             slot,
             table,
+            id: None,
+            again: false,
         };
+        Process::of(alloc, ticket, body)
+    }
+
+    /// The process of this ticket, which has not started. Nothing is called. Refused where there is no memory; the body comes back.
+    pub fn of(alloc: Global, ticket: Ticket, body: Body<J, S>) -> Result<Process<J, S>, Body<J, S>>
+        ensures made { IfOk result (λ process. process ≡ fresh_process ticket body) }
+        ensures refused { IfErr result (λ back. back ≡ body) }
+    {
         let empty = Inside {
             ticket,
             body: None,

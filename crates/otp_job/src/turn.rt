@@ -109,11 +109,14 @@ fn start_job<J: Job, S: Drop>(inside: Emptied<J, S>, mut job: J, site: &Site<'_>
         number,
         slot,
         table,
+        id,
+        again: _,
     } = inside.ticket;
     let place = Place {
         number,
         slot,
         table,
+        id,
         reading: site.reading,
         post: site.post,
     };

@@ -1,5 +1,5 @@
 -- The bodies of a tree's children, by the words of their starts (own).
-use Rattle.std.specs.Prelude.{ℕ, ◌+◌, ◌==◌, Bool, true, false, not, ◌&&◌, ◌||◌, suc, zero, List, [], ◌∷◌, map, length, Option, Some, None, if◌then◌else◌}
+use Rattle.std.specs.Prelude.{ℕ, ◌+◌, ◌==◌, Bool, true, false, not, ◌&&◌, ◌||◌, suc, zero, List, [], ◌∷◌, map, length, Option, Some, None, if◌then◌else◌, slice_get}
 use Rattle.std.specs.List.{list_any}
 use Rattle.std.specs.Option.{option_map}
 use Rattle.otp_file.specs.Trees.{Table}
@@ -8,10 +8,12 @@ use Rattle.otp_job.specs.declared.body.Body.TheVariants as body
 use Rattle.otp_reason.specs.Names.{name_bytes}
 use Rattle.otp_reason.specs.declared.name.Name.{Name}
 use Rattle.otp_spec.specs.Flags.{is_simple}
+use Rattle.otp_spec.specs.Supervisor.{Supervisor}
 use Rattle.otp_spec.specs.declared.child.ChildSpec.{ChildSpec}
 use Rattle.otp_spec.specs.declared.child.ChildType.{ChildType}
 use Rattle.otp_spec.specs.declared.child.ChildType.TheVariants as kind
 use Rattle.otp_spec.specs.declared.flags.SupFlags.{SupFlags}
+use Rattle.otp_sup.specs.Plans.{no_plan}
 use Rattle.otp_open.specs.declared.plan.TablePlan.{TablePlan}
 use Rattle.otp_jobs.specs.Jobs.{body_of, role_of}
 use Rattle.otp_jobs.specs.declared.flat.FlatTable.{FlatTable}
@@ -143,6 +145,14 @@ plans_from number (table ∷ tables) = plan_of (number + 1) (tree_sizes tables) 
 
 abbrev pub seen : TablePlan WorkedJob Calm → PlanView
 seen plan = record { flags = plan.supervisor.flags; specs = plan.supervisor.specs; bodies = map Some plan.bodies.items }
+
+abbrev pub supervisor_in : Option Table → Supervisor
+supervisor_in (Some table) = record { flags = table.flags; specs = table.specs }
+supervisor_in None = no_plan
+
+-- the flags and the specifications of the table with each number
+abbrev pub supervisors_of : List Table → ℕ → Supervisor
+supervisors_of tables number = supervisor_in (slice_get tables number)
 
 abbrev pub table_seen : FlatTable → Table
 table_seen table = record { flags = table.supervisor.flags; specs = table.supervisor.specs; nested = table.nested.items }

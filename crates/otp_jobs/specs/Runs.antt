@@ -1,24 +1,26 @@
 -- What comes of a run (own).
-use Rattle.std.specs.Prelude.{◌≡◌, ℕ, Bool, ◌-◌, ◌^◌, ◌≤◌, ⊤, List, ◌++◌, length, map, min}
+use Rattle.std.specs.Prelude.{◌≡◌, ℕ, Bool, ◌-◌, ◌^◌, ◌<◌, ◌≤◌, ⊤, List, ◌++◌, length, map, min}
 use Rattle.otp_core.specs.View.{state_of}
 use Rattle.otp_rules.specs.Needs.{numbers_of}
 use Rattle.otp_report.specs.Reports.{last_reason}
-use Rattle.otp_close.specs.Closes.{IsReportOf}
+use Rattle.otp_close.specs.Closes.{HaveBegun, IsReportOf}
 use Rattle.otp_close.specs.declared.closing.CloseFault.TheVariants as close
-use Rattle.otp_open.specs.declared.opening.SystemFault.{SystemFault}
+use Rattle.otp_file.specs.Trees.{Table}
 use Rattle.otp_open.specs.declared.opening.SystemFault.TheVariants as unopened
 use Rattle.otp_report.specs.declared.report.TableReport.{TableReport}
+use Rattle.otp_spec.specs.declared.limits.TheConstants.{MAX_TABLES}
 use Rattle.otp_tree.specs.declared.whole.CountedRun.{CountedRun}
 use Rattle.otp_tree.specs.declared.whole.RunFault.{RunFault}
 use Rattle.otp_tree.specs.declared.whole.RunFault.TheVariants as run
 use Rattle.otp_jobs.specs.declared.plan.PlanFault.{PlanFault}
 use Rattle.otp_jobs.specs.declared.plan.PlanFault.TheVariants as plan
+use Rattle.otp_jobs.specs.Plans.{supervisors_of}
 use Rattle.otp_jobs.specs.Reports.{counts_text, report_text}
 use Rattle.otp_jobs.specs.declared.report.TableLine.{TableLine}
 use Rattle.otp_jobs.specs.declared.role.Calm.{Calm}
 use Rattle.otp_jobs.specs.declared.worker.WorkedJob.{WorkedJob}
 use Rattle.otp_jobs.specs.declared.run.FileRunFault.{FileRunFault}
-use Rattle.otp_jobs.specs.declared.run.FileRunFault.TheVariants.{OutOfMemory, UnknownStart, WrongBody, TooManyTables, NoBody, Mismatch, Missing}
+use Rattle.otp_jobs.specs.declared.run.FileRunFault.TheVariants.{OutOfMemory, UnknownStart, WrongBody, TooManyTables, Mismatch, Misplaced}
 use Rattle.otp_jobs.specs.declared.run.TheConstants.{MIN_SCHEDULERS, MAX_SCHEDULERS, MIN_TURNS, MAX_TURNS}
 
 -- the limits of a run
@@ -39,19 +41,22 @@ run_fault plan.TooManyTables = TooManyTables
 run_fault (plan.UnknownStart name) = UnknownStart name
 run_fault plan.WrongBody = WrongBody
 
--- and why, where it could not be opened
-abbrev pub unopened_fault : SystemFault → FileRunFault
-unopened_fault unopened.OutOfMemory = OutOfMemory
-unopened_fault (unopened.NoBody table) = NoBody
-
--- or was run and has no report: it was not closed, or its report tells of a mismatch
 module _ {J S : Type 0} where
-  abbrev pub unrun_fault : RunFault J S → FileRunFault
-  unrun_fault (run.Open why) = unopened_fault why
-  unrun_fault (run.Close (close.OutOfMemory back)) = OutOfMemory
-  unrun_fault (run.Close (close.Missing back)) = Missing
-  unrun_fault (run.Close (close.Misplaced back found)) = Missing
-  unrun_fault (run.Close (close.Mismatch m report)) = Mismatch
+  -- no child is said to have no body
+  abbrev pub IsNoneBare : RunFault J S → Type 0
+  IsNoneBare (run.Open unopened.OutOfMemory) = ⊤
+  IsNoneBare (run.Open (unopened.NoBody table)) = ⊥
+  IsNoneBare (run.Close why) = ⊤
+
+  -- and why, where it was planned and has no report: it was not opened or not closed, or its report tells of a mismatch. No child
+  -- lacks its body, and no part of the tree is missing
+  abbrev pub IsFaultOf : RunFault J S → FileRunFault → Type 0
+  IsFaultOf (run.Open unopened.OutOfMemory) fault = fault ≡ OutOfMemory
+  IsFaultOf (run.Open (unopened.NoBody table)) fault = ⊥
+  IsFaultOf (run.Close (close.OutOfMemory back)) fault = fault ≡ OutOfMemory
+  IsFaultOf (run.Close (close.Missing back)) fault = ⊥
+  IsFaultOf (run.Close (close.Misplaced back found)) fault = fault ≡ Misplaced
+  IsFaultOf (run.Close (close.Mismatch m report)) fault = fault ≡ Mismatch
 
 -- a fault of the starts that the tree names
 abbrev pub IsOfRun : FileRunFault → Type 0
@@ -62,10 +67,14 @@ IsOfRun _ = ⊥
 -- a fault that is none of the starts
 abbrev pub IsNotPlanned : FileRunFault → Type 0
 IsNotPlanned OutOfMemory = ⊤
-IsNotPlanned NoBody = ⊤
 IsNotPlanned Mismatch = ⊤
-IsNotPlanned Missing = ⊤
+IsNotPlanned Misplaced = ⊤
 IsNotPlanned _ = ⊥
+
+-- a tree is said to have too many supervisors only where it has more than there can be
+abbrev pub IsTooManyOnly : ℕ → FileRunFault → Type 0
+IsTooManyOnly tables TooManyTables = MAX_TABLES < tables
+IsTooManyOnly tables _ = ⊤
 
 -- what is printed of a supervisor: how many starts its history has, how many restarts since it was started last, as far as a
 -- number goes, and the reason of its last end
@@ -80,11 +89,13 @@ line_of table = record {
 abbrev pub run_text : Bool → CountedRun WorkedJob Calm → List ℕ
 run_text counted run = counts_text counted run.counts.items ++ report_text (map line_of run.report.tables.items) run.report.live
 
--- counts of so many supervisors, and a report of as many
-pub record IsRunOf (tables : ℕ) (run : CountedRun WorkedJob Calm) : Type 0 where
-  pub counts : length run.counts.items ≡ tables
-  pub report : IsReportOf tables run.report
+-- counts of the supervisors with these tables, and their report
+pub record IsRunOf (tables : List Table) (run : CountedRun WorkedJob Calm) : Type 0 where
+  pub counts : length run.counts.items ≡ length tables
+  pub report : IsReportOf (length tables) run.report
+  -- each core began with the flags and the specifications of the table with its number, never opened
+  pub plans : HaveBegun (supervisors_of tables) run.report.tables.items
 
--- a report of so many supervisors was appended, behind the counts of as many where they are wanted
-abbrev pub Reports : Bool → ℕ → List ℕ → List ℕ → Type 0
+-- the report of these supervisors was appended, behind their counts where they are wanted
+abbrev pub Reports : Bool → List Table → List ℕ → List ℕ → Type 0
 Reports counted tables old new = (run : CountedRun WorkedJob Calm) × (IsRunOf tables run × (new ≡ old ++ run_text counted run))

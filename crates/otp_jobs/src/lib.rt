@@ -16,6 +16,6 @@ pub mod worker;
 pub use plan::{PlanFault, WorkedPlan, plan_tree};
 pub use report::{TableLine, write_counts, write_report};
 pub use role::{Calm, Role, WorkedBody};
-pub use run::{FileRunFault, Settings, WorkedRun, run_worked};
+pub use run::{FileRunFault, Settings, WorkedRun, fault_of, run_worked};
 pub use work::Work;
 pub use worker::{Life, WorkedJob};

@@ -3,7 +3,8 @@ ghost use Rattle.std.specs.Prelude.{◌≡◌, ◌<◌, ◌≤◌, ◌++◌, fal
 ghost use Rattle.std.specs.Option.{SomeIff, option_map};
 ghost use Rattle.otp_file.specs.Trees.{tables_of};
 ghost use Rattle.otp_jobs.specs.Plans.{plan_fault};
-ghost use Rattle.otp_jobs.specs.Runs.{AreSettings, IsOfRun, IsRunOf, line_of, run_fault, run_text};
+ghost use Rattle.otp_jobs.specs.Runs.{AreSettings, IsFaultOf, IsNoneBare, IsNotPlanned, IsOfRun, IsRunOf, IsTooManyOnly, line_of, run_fault, run_text};
+ghost use Rattle.otp_tree.specs.Closes.{IsRunNoneMissing};
 
 use crate::plan::{PlanFault, plan_tree};
 use crate::report::{TableLine, write_counts, write_report};
@@ -30,12 +31,10 @@ pub enum FileRunFault {
     WrongBody,
     /// E15: there are more than 64 supervisors, which no tree file says.
     TooManyTables,
-    /// A child has no body, which the plan of each tree file has.
-    NoBody,
     /// E17: a supervisor was told an end of another that isn't the one that the other's own history gives.
     Mismatch,
-    /// E20: a part of the tree is missing at its close.
-    Missing,
+    /// E20: a supervisor's lock holds another one's, which doesn't happen ([`CloseFault::Misplaced`]).
+    Misplaced,
 }
 
 impl From<AllocError> for FileRunFault {
@@ -65,34 +64,23 @@ impl From<PlanFault> for FileRunFault {
     }
 }
 
-impl From<SystemFault> for FileRunFault {
-    ghost use Rattle.std.specs.Prelude.{◌≡◌};
-    ghost use Rattle.otp_jobs.specs.Runs.{IsNotPlanned, unopened_fault};
-
-    ghost from_gives = { λ why fault. IsNotPlanned fault × (fault ≡ unopened_fault why) };
-
-    fn from(why: SystemFault) -> FileRunFault {
-        match why {
-            SystemFault::OutOfMemory => FileRunFault::OutOfMemory,
-            SystemFault::NoBody { .. } => FileRunFault::NoBody,
-        }
-    }
-}
-
-impl From<RunFault<WorkedJob, Calm>> for FileRunFault {
-    ghost use Rattle.std.specs.Prelude.{◌≡◌};
-    ghost use Rattle.otp_jobs.specs.Runs.{IsNotPlanned, unrun_fault};
-
-    ghost from_gives = { λ why fault. IsNotPlanned fault × (fault ≡ unrun_fault why) };
-
-    fn from(why: RunFault<WorkedJob, Calm>) -> FileRunFault {
-        match why {
-            RunFault::Open(fault) => FileRunFault::from(fault),
-            RunFault::Close(CloseFault::OutOfMemory(())) => FileRunFault::OutOfMemory,
-            RunFault::Close(CloseFault::Missing(()) | CloseFault::Misplaced((), _)) => {
-                FileRunFault::Missing
-            }
-            RunFault::Close(CloseFault::Mismatch(..)) => FileRunFault::Mismatch,
+/// Why a tree that could be planned has no report. Nobody else has a part of it, and its plan has a body for each child, so neither is
+/// said to be missing.
+pub fn fault_of<J: Drop, S: Drop>(why: RunFault<J, S>) -> FileRunFault
+    requires missing { IsRunNoneMissing why }
+    requires bodies { IsNoneBare why }
+    ensures kind { IsNotPlanned result }
+    ensures fault { IsFaultOf why result }
+{
+    match why {
+        RunFault::Open(SystemFault::OutOfMemory) => FileRunFault::OutOfMemory,
+        RunFault::Open(SystemFault::NoBody { .. }) => unreachable!(),
+        RunFault::Close(CloseFault::OutOfMemory(())) => FileRunFault::OutOfMemory,
+        RunFault::Close(CloseFault::Missing(())) => unreachable!(),
+        RunFault::Close(CloseFault::Misplaced((), _)) => FileRunFault::Misplaced,
+        RunFault::Close(CloseFault::Mismatch(_, report)) => {
+            drop(report);
+            FileRunFault::Mismatch
         }
     }
 }
@@ -232,8 +220,8 @@ fn write_run(
 /// # Errors
 ///
 /// Where a start stands for nothing or a job for no worker, nothing is run: [`FileRunFault::UnknownStart`] and
-/// [`FileRunFault::WrongBody`]. [`FileRunFault::OutOfMemory`], also while the text is made. [`FileRunFault::Missing`] and
-/// [`FileRunFault::Mismatch`] where the tree can't be closed.
+/// [`FileRunFault::WrongBody`]. [`FileRunFault::OutOfMemory`], also while the text is made. [`FileRunFault::Mismatch`] where the report
+/// tells of one. [`FileRunFault::TooManyTables`] and [`FileRunFault::Misplaced`], which no tree of a file comes to.
 pub fn run_worked<R, G>(
     rt: &R,
     alloc: Global,
@@ -245,20 +233,24 @@ pub fn run_worked<R, G>(
 where
     R: Threads + Wait + Sync,
     G: Gate + Sync,
-    ensures run { IfOk result (IsRunOf (length (tables_of tree))) }
+    ensures run { IfOk result (IsRunOf (tables_of tree)) }
     ensures report { IfOk result (λ run. out.new.items ≡ out.old.items ++ run_text settings.counted run) }
     ensures runnable { OnOk result (plan_fault (tables_of tree) ≡ None) }
     ensures fault { IfErr result (λ why. IsOfRun why → option_map run_fault (plan_fault (tables_of tree)) ≡ Some why) }
+    ensures too_many { IfErr result (IsTooManyOnly (length (tables_of tree))) }
 {
     let plans = plan_tree(alloc, tree)?;
-    let whole = run_tree_counted(
+    let whole = match run_tree_counted(
         rt,
         alloc,
         plans,
         settings.schedulers(),
         gate,
         settings.turns(),
-    )?;
+    ) {
+        Ok(whole) => whole,
+        Err(why) => return Err(fault_of(why)),
+    };
     match write_run(alloc, settings.is_counted(), &whole, out) {
         Ok(()) => Ok(whole),
         Err(AllocError) => {

@@ -218,7 +218,7 @@ impl Stage {
         let mut numbers = Counter {
             last: self.core.last_number(),
         };
-        self.core.step_with(time, kind, &mut numbers);
+        self.core.step_with(time, &kind, &mut numbers);
         take_orders(&mut self.core, &mut self.notes, &mut self.orders)?;
         Ok(())
     }

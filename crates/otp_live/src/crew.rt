@@ -3,27 +3,23 @@
 use crate::caller::Caller;
 use crate::clock::Stopwatch;
 use crate::span::Span;
-use crate::watch::{Seen, Watch, happening_of};
-use otp_reason::Note;
-use otp_tree::MAX_HANDS;
+use crate::watch::{Seen, Watch};
+use otp_job::Ticket;
+use otp_tree::{Happening, MAX_HANDS};
 use otp_wake::{Bells, Post, Stop};
 use std::alloc::{AllocError, Global};
 use std::sync::Arc;
 use std::sync::atomic::{AtomicU64, Ordering};
 use std::time::Clock;
 
-/// What is known of a supervisor: in which hand it waits or waited last, as that number and 1; and a bit for each hand in which a
-/// child of it waits or waited.
-#[derive(Drop)]
-struct Places {
-    home: AtomicU64,
-    children: AtomicU64,
-}
+/// So often a hand looks again before it sleeps, where there are others: for some 20 microseconds.
+const PATIENCE: u32 = 32;
 
-/// What the hands share: who waits where, by which they wake each other, and how far the run is.
+/// What the hands share: which supervisor rests where, by which they wake each other, and how far the run is.
 ///
-/// A hand writes down where something waits before it announces a sleep, and so before it looks for the last time; whoever sends to
-/// that reads it after the sending. So either the look finds what was sent, or the sender finds the hand and rings.
+/// A hand writes down where a supervisor rests before it announces a sleep, and so before it looks for the last time; whoever sends a
+/// letter to that reads it after the sending. So either the look finds the letter, or the sender finds the hand and rings. Where a
+/// process waits for a signal, or to be woken, the [`Post`] knows in the same way.
 #[derive(Drop)]
 pub(crate) struct Crew<'a, C, W, J: Drop, S: Drop> {
     pub clock: &'a Stopwatch<'a, C>,
@@ -33,26 +29,25 @@ pub(crate) struct Crew<'a, C, W, J: Drop, S: Drop> {
     pub callers: &'a [Caller<J, S>],
     pub alloc: Global,
     watch: &'a W,
-    // One for each supervisor, and one for whoever opened the tree.
-    places: Vec<Places>,
+    // In which hand each supervisor rests, as that number and 1, or 0 while it has turns; and one for whoever opened the tree.
+    homes: Vec<AtomicU64>,
     hands: usize,
+    // How many hands have something that others could take.
+    crowds: AtomicU64,
     is_asked: AtomicU64,
     has_ended: AtomicU64,
 }
 
-fn places_of(alloc: Global, tables: usize) -> Result<Vec<Places>, AllocError> {
-    let mut places = Vec::new(alloc);
+fn homes_of(alloc: Global, tables: usize) -> Result<Vec<AtomicU64>, AllocError> {
+    let mut homes = Vec::new(alloc);
     for _ in 0..=tables {
-        places.push(Places {
-            home: AtomicU64::new(0),
-            children: AtomicU64::new(0),
-        })?;
+        homes.push(AtomicU64::new(0))?;
     }
-    Ok(places)
+    Ok(homes)
 }
 
 impl<'a, C: Clock, W: Watch, J: Drop, S: Drop> Crew<'a, C, W, J, S> {
-    /// The crew of a tree of so many supervisors and hands, none of which waits anywhere yet.
+    /// The crew of a tree of so many supervisors and hands, none of which rests anywhere yet.
     pub fn of(
         alloc: Global,
         clock: &'a Stopwatch<'a, C>,
@@ -64,7 +59,7 @@ impl<'a, C: Clock, W: Watch, J: Drop, S: Drop> Crew<'a, C, W, J, S> {
         tables: usize,
         hands: usize,
     ) -> Result<Self, AllocError> {
-        let places = places_of(alloc, tables)?;
+        let homes = homes_of(alloc, tables)?;
         Ok(Crew {
             clock,
             stop,
@@ -73,8 +68,9 @@ impl<'a, C: Clock, W: Watch, J: Drop, S: Drop> Crew<'a, C, W, J, S> {
             callers,
             alloc,
             watch,
-            places,
+            homes,
             hands: hands.min(MAX_HANDS),
+            crowds: AtomicU64::new(0),
             is_asked: AtomicU64::new(0),
             has_ended: AtomicU64::new(0),
         })
@@ -128,31 +124,26 @@ impl<'a, C: Clock, W: Watch, J: Drop, S: Drop> Crew<'a, C, W, J, S> {
         is_any_wanted(self.callers)
     }
 
-    /// Notes that the supervisor of this number, a child of the other, waits in a hand.
-    pub fn rests(&self, hand: usize, table: usize, parent: usize) {
-        if let Some(places) = self.places.get(table) {
-            let home = (hand as u64).saturating_add(1);
-            if places.home.load(Ordering::SeqCst) != home {
-                places.home.store(home, Ordering::SeqCst);
-            }
+    /// Notes that this supervisor rests in a hand.
+    pub fn rests(&self, hand: usize, table: usize) {
+        if let Some(home) = self.homes.get(table) {
+            home.store((hand as u64).saturating_add(1), Ordering::SeqCst);
         }
-        self.waits(hand, parent);
     }
 
-    /// Notes that a child of this supervisor waits in a hand.
-    pub fn waits(&self, hand: usize, parent: usize) {
-        if let Some(places) = self.places.get(parent) {
-            let bit = bit_of(hand);
-            if places.children.load(Ordering::SeqCst) & bit == 0 {
-                places.children.fetch_or(bit, Ordering::SeqCst);
+    /// Notes that this supervisor has turns: a letter to it wakes nobody before it rests again.
+    pub fn is_up(&self, table: usize) {
+        if let Some(home) = self.homes.get(table) {
+            if home.load(Ordering::SeqCst) != 0 {
+                home.store(0, Ordering::SeqCst);
             }
         }
     }
 
-    /// Wakes the hand in which this supervisor waits, but not this one.
+    /// Wakes the hand in which this supervisor rests, but not this one.
     pub fn wake_home(&self, hand: usize, table: usize) {
-        if let Some(places) = self.places.get(table) {
-            if let Some(home) = hand_in(places.home.load(Ordering::SeqCst)) {
+        if let Some(home) = self.homes.get(table) {
+            if let Some(home) = hand_in(home.load(Ordering::SeqCst)) {
                 if home != hand {
                     self.bells().ring(home);
                 }
@@ -160,20 +151,25 @@ impl<'a, C: Clock, W: Watch, J: Drop, S: Drop> Crew<'a, C, W, J, S> {
         }
     }
 
-    /// Wakes all hands in which children of this supervisor wait, but not this one.
-    pub fn wake_children(&self, hand: usize, parent: usize) {
-        let Some(places) = self.places.get(parent) else {
-            return;
-        };
-        let bits = places.children.load(Ordering::SeqCst);
-        if bits & !bit_of(hand) == 0 {
-            return;
+    /// How often a hand that finds nothing looks again before it sleeps: another may have something for it in a moment, and a look costs
+    /// less than a sleep and a wake.
+    pub fn patience(&self) -> u32 {
+        if self.hands > 1 { PATIENCE } else { 0 }
+    }
+
+    /// Notes that a hand has something that others could take, or no longer, if that is new.
+    pub fn note_crowd(&self, was_there: bool, is_there: bool) {
+        if is_there && !was_there {
+            self.crowds.fetch_add(1, Ordering::SeqCst);
         }
-        for other in 0..self.hands {
-            if other != hand && bits & bit_of(other) != 0 {
-                self.bells().ring(other);
-            }
+        if was_there && !is_there {
+            self.crowds.fetch_sub(1, Ordering::SeqCst);
         }
+    }
+
+    /// Whether some hand has something that others could take.
+    pub fn is_crowded(&self) -> bool {
+        self.crowds.load(Ordering::SeqCst) != 0
     }
 
     /// Wakes one other hand that sleeps, if there is one, so that it takes something off this one.
@@ -186,17 +182,19 @@ impl<'a, C: Clock, W: Watch, J: Drop, S: Drop> Crew<'a, C, W, J, S> {
         }
     }
 
-    /// Notes that a letter with this note has gone to this supervisor, or to whoever opened the tree.
-    pub fn sent(&self, hand: usize, table: usize, note: Note) {
+    /// Notes that a letter has gone, which tells that this happened to the process with this ticket.
+    pub fn sent(&self, hand: usize, ticket: &Ticket, what: Happening) {
+        let table = ticket.table;
         self.wake_home(hand, table);
         if self.watch.is_told() {
             self.watch.saw(Seen {
                 at: self.clock.reading(),
                 table,
-                what: happening_of(note),
+                id: ticket.id,
+                what,
             });
         }
-        if table.saturating_add(1) == self.places.len() && is_end(note) {
+        if table.saturating_add(1) == self.homes.len() && is_end(what) {
             self.has_ended.store(1, Ordering::SeqCst);
             self.bells().ring_all();
         }
@@ -213,27 +211,12 @@ fn is_any_wanted<J: Drop, S: Drop>(callers: &[Caller<J, S>]) -> bool {
     false
 }
 
-/// Whether a note tells the end of a process.
-fn is_end(note: Note) -> bool {
-    !matches!(note, Note::Up(_))
+/// Whether a process has ended by what happened to it.
+fn is_end(what: Happening) -> bool {
+    !matches!(what, Happening::Started(_) | Happening::Restarted(_))
 }
 
 /// The hand with this number, counted from 1.
 fn hand_in(home: u64) -> Option<usize> {
     usize::try_from(home.checked_sub(1)?).ok()
-}
-
-/// The bit of a hand. No hand above 8 is there.
-fn bit_of(hand: usize) -> u64 {
-    match hand {
-        0 => 1,
-        1 => 2,
-        2 => 4,
-        3 => 8,
-        4 => 16,
-        5 => 32,
-        6 => 64,
-        7 => 128,
-        _ => 0,
-    }
 }

@@ -12,7 +12,7 @@
 //! [`run_for`] runs it for a time: then the stop is raised, and where the tree hasn't ended some time after that, the hands leave it
 //! ([`Span`]). The report says what is left.
 //!
-//! A [`Watch`] is told what happens: which processes started and ended, and why, and when. It is told by the thread in which it
+//! A [`Watch`] is told what happens: which processes started, started again and ended, and why, and when. It is told by the thread in which it
 //! happened, with no lock held.
 //!
 //! Any thread calls the supervisors of a tree that runs by a [`Caller`], as OTP's `supervisor:restart_child` and the others do: a
@@ -31,6 +31,7 @@ pub mod caller;
 pub mod calls;
 pub mod clock;
 mod crew;
+mod crowd;
 mod live;
 mod locked;
 pub mod log;
@@ -49,6 +50,7 @@ pub use clock::Stopwatch;
 pub use live::{close_callers, run, run_for, run_with_callers};
 pub use log::{LogLines, write_line, write_line_at};
 pub use mailbox::Mailbox;
+pub use otp_tree::Happening;
 pub use otp_wake::{Stop, Waker};
 pub use span::Span;
-pub use watch::{Happening, Seen, Unwatched, Watch};
+pub use watch::{Seen, Unwatched, Watch};

@@ -10,6 +10,7 @@ ghost use Rattle.otp_open.specs.Plans.{HaveBodies, plans_of};
 use crate::caller::Caller;
 use crate::clock::Stopwatch;
 use crate::crew::Crew;
+use crate::crowd::Crowd;
 use crate::locked::{Locked, ReachNaming};
 use crate::seat::Seat;
 use crate::served::serve_tree;
@@ -23,14 +24,9 @@ use otp_tree::{Hand, Report, RunFault, System, SystemFault, TablePlan};
 use otp_wake::{Post, Stop};
 use std::alloc::{AllocError, Global};
 use std::sync::{Arc, Mutex, Wait};
+use std::thread;
 use std::thread::Threads;
 use std::time::{Clock, Duration};
-
-/// So many turns a hand makes before it looks at the clock and the stop again.
-const BATCH: u32 = 16;
-
-/// So many batches in a row a hand had more than one process in its run queue before it wakes another hand.
-const PATIENCE: u32 = 2;
 
 /// So many milliseconds a hand sleeps that was refused memory before it tries again.
 const PAUSE: u64 = 1;
@@ -267,7 +263,8 @@ where
     let crew = seat.crew;
     // Where this is refused, which it isn't, jobs that ask for a waker at their start get none.
     let _opened = hand.open_post(&crew.post);
-    let mut crowded: u32 = 0;
+    let mut crowd = Crowd::new();
+    let mut vain: u32 = 0;
     for _ in rt.forever() {
         if crew.has_ended() || crew.keep_time() {
             return;
@@ -278,22 +275,29 @@ where
         if crew.is_called() {
             send_calls(rt, seat, system, client);
         }
-        let is_busy = serve_some(rt, seat, system, hand);
+        mind_crowds(crew, hand);
+        let is_busy = serve_some(rt, seat, system, hand, crowd.turns());
         collect_answers(rt, seat, system);
+        share(seat, &mut crowd, hand, is_busy);
         if is_busy {
-            crowded = share(seat, hand.stock(), crowded);
+            vain = 0;
+        } else if vain < crew.patience() {
+            vain = vain.saturating_add(1);
+            thread::yield_now();
         } else {
+            vain = 0;
             sleep(rt, seat, system, hand);
         }
     }
 }
 
-/// Some turns of a hand, at one reading of the clock. False where it found nothing to do in the last.
+/// So many turns of a hand, at one reading of the clock. False where it found nothing to do in the last.
 fn serve_some<N, R, J, S, W>(
     rt: &R,
     seat: &Seat<'_, R, W, J, S>,
     system: &System<N, J, S>,
     hand: &mut Hand<N, J, S>,
+    turns: u32,
 ) -> bool
 where
     N: TreeNaming,
@@ -304,7 +308,7 @@ where
     ensures { standing_of hand.new ≡ standing_of hand.old }
 {
     let reading = seat.crew.clock.reading();
-    for _ in 0..BATCH {
+    for _ in 0..turns {
         if !system.turn_heard(rt, hand, reading, seat) {
             return false;
         }
@@ -375,20 +379,48 @@ where
     }
 }
 
-/// Wakes another hand where this one has had more to do than one process for so long. How long it has so far.
-fn share<C: Clock, W: Watch, J: Drop, S: Drop>(
+/// Lets a hand try the deques of others in its next searches only where one of them is crowded. What is in a deque has its turns there;
+/// whoever took one of two processes that wait for each other would be waited for.
+fn mind_crowds<N, C, W, J, S>(crew: &Crew<'_, C, W, J, S>, hand: &mut Hand<N, J, S>)
+where
+    N: TreeNaming,
+    C: Clock,
+    W: Watch,
+    J: Drop,
+    S: Drop,
+    ensures { standing_of hand.new ≡ standing_of hand.old }
+{
+    if crew.is_crowded() {
+        hand.try_others();
+    } else {
+        hand.spare_others();
+    }
+}
+
+/// Notes a batch of turns of a hand. Where it has much to do for long, other hands may take of that, and one is woken for it.
+fn share<N, C, W, J, S>(
     seat: &Seat<'_, C, W, J, S>,
-    stock: u32,
-    crowded: u32,
-) -> u32 {
-    if stock < 2 {
-        return 0;
+    crowd: &mut Crowd,
+    hand: &mut Hand<N, J, S>,
+    is_busy: bool,
+)
+where
+    N: TreeNaming,
+    C: Clock,
+    W: Watch,
+    J: Drop,
+    S: Drop,
+    ensures { standing_of hand.new ≡ standing_of hand.old }
+{
+    let crew = seat.crew;
+    let was_there = crowd.is_there();
+    let (stock, news) = (hand.stock(), seat.take_news());
+    crowd.note(is_busy, stock, news, crew.clock.reading());
+    crew.note_crowd(was_there, crowd.is_there());
+    hand.note_crowd(crowd.is_there());
+    if crowd.wakes_another() {
+        crew.wake_another(seat.hand);
     }
-    if crowded < PATIENCE {
-        return crowded + 1;
-    }
-    seat.crew.wake_another(seat.hand);
-    0
 }
 
 /// Sleeps until there may be something to do for a hand. It returns at once where there is.
@@ -415,7 +447,7 @@ where
         drop(announced);
         return;
     }
-    hand.try_others();
+    mind_crowds(crew, hand);
     let reading = crew.clock.reading();
     if system.look_at_all(hand, reading) {
         drop(announced);

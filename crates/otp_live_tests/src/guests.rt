@@ -159,8 +159,10 @@ fn add(
 ) {
     let id = named(rt, name);
     let mut spec = ChildSpec::new(id, id);
-    if kind == Kind::Deaf {
-        spec.shutdown = Shutdown::Milliseconds(20);
+    match kind {
+        Kind::Deaf => spec.shutdown = Shutdown::Milliseconds(20),
+        Kind::Steady => spec.shutdown = Shutdown::Infinity,
+        _ => {}
     }
     let job = make_guest(rt, kind, shared);
     got(rt, MEMORY, draft.add(spec, Body::Worker(job)));

@@ -4,6 +4,8 @@
 #[cfg(test)]
 mod calls;
 #[cfg(test)]
+mod drawn;
+#[cfg(test)]
 mod guests;
 #[cfg(test)]
 mod runs;

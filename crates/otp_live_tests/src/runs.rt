@@ -56,25 +56,34 @@ fn stop_after(shared: &Shared, starts: u64) {
     shared.stop.raise();
 }
 
-// A tree that another thread stops while all its threads may sleep.
-fn stop_beside<R: Threads + Wait + Clock + Abort + Sync>(rt: &R, alloc: Global, hands: usize) {
+// A tree of four such jobs in each supervisor, which another thread stops while all its threads may sleep.
+fn stop_beside<R: Threads + Wait + Clock + Abort + Sync>(
+    rt: &R,
+    alloc: Global,
+    kinds: &[Kind; 4],
+    hands: usize,
+) {
     let shared = Shared::new(rt, alloc);
-    let kinds = [Kind::Steady, Kind::Steady];
     let (seen, ()) = thread::join(
         rt,
-        || lives(rt, alloc, &kinds, &kinds, &shared, 1, hands),
-        || stop_after(&shared, 4),
+        || lives(rt, alloc, kinds, kinds, &shared, 1, hands),
+        || stop_after(&shared, 8),
     );
     drop(shared);
     all_ended(rt, seen);
-    same(rt, "the processes that began", seen.begun, 6);
+    same(rt, "the processes that began", seen.begun, 10);
 }
 
+// Beside busy jobs the steady ones begin in several hands, and are stopped there. They have all the time of the world: were one signal
+// not heard in another hand, the stop would wait for ever.
 #[test]
 fn another_thread_stops_a_tree(rt: HostRuntime) {
+    let steady = [Kind::Steady; 4];
+    let mixed = [Kind::Busy, Kind::Steady, Kind::Busy, Kind::Steady];
     for _ in 0..20 {
-        stop_beside(&rt, rt.alloc(), 1);
-        stop_beside(&rt, rt.alloc(), 3);
+        stop_beside(&rt, rt.alloc(), &steady, 1);
+        stop_beside(&rt, rt.alloc(), &steady, 3);
+        stop_beside(&rt, rt.alloc(), &mixed, 3);
     }
 }
 
@@ -121,19 +130,45 @@ fn a_tree_restarts_until_it_is_stopped(rt: HostRuntime) {
 #[derive(Drop)]
 struct Counting {
     started: AtomicU64,
+    restarted: AtomicU64,
+    named: AtomicU64,
     exited: AtomicU64,
+    stopped: AtomicU64,
+    gave_up: AtomicU64,
     of_root: AtomicU64,
+}
+
+impl Counting {
+    fn new() -> Self {
+        Counting {
+            started: AtomicU64::new(0),
+            restarted: AtomicU64::new(0),
+            named: AtomicU64::new(0),
+            exited: AtomicU64::new(0),
+            stopped: AtomicU64::new(0),
+            gave_up: AtomicU64::new(0),
+            of_root: AtomicU64::new(0),
+        }
+    }
 }
 
 impl Watch for Counting {
     fn saw(&self, seen: Seen) {
         match seen.what {
             Happening::Started(_) => self.started.fetch_add(1, Ordering::SeqCst),
+            Happening::Restarted(_) => self.restarted.fetch_add(1, Ordering::SeqCst),
             Happening::Exited(..) => self.exited.fetch_add(1, Ordering::SeqCst),
-            Happening::Ignored(_) | Happening::Failed(..) => 0,
+            Happening::Stopped(_) => self.stopped.fetch_add(1, Ordering::SeqCst),
+            Happening::GaveUp(_, flags) => self
+                .gave_up
+                .fetch_add(flags.intensity, Ordering::SeqCst),
+            Happening::Ignored(_) | Happening::Failed(..) | Happening::ShutDown(..) => 0,
         };
         if seen.table == 2 {
             self.of_root.fetch_add(1, Ordering::SeqCst);
+        }
+        if seen.id.is_some() {
+            self.named.fetch_add(1, Ordering::SeqCst);
         }
     }
 }
@@ -142,19 +177,36 @@ impl Watch for Counting {
 #[test]
 fn a_watch_is_told(rt: HostRuntime) {
     let shared = Shared::new(&rt, rt.alloc());
-    let counting = Counting {
-        started: AtomicU64::new(0),
-        exited: AtomicU64::new(0),
-        of_root: AtomicU64::new(0),
-    };
+    let counting = Counting::new();
     let kinds = [Kind::Steady, Kind::Stops(4)];
     let plans = tree(&rt, rt.alloc(), &kinds, &kinds, &shared, flags(1));
     let seen = run_watched(&rt, rt.alloc(), plans, 2, &shared.stop, &counting);
     drop(shared);
     same(&rt, "the processes that are left", seen.live, 0);
     is_told(&rt, "the starts", &counting.started, 6);
-    is_told(&rt, "the ends", &counting.exited, 6);
+    is_told(&rt, "the ends of jobs", &counting.exited, 4);
+    is_told(&rt, "the stops of supervisors", &counting.stopped, 2);
+    is_told(&rt, "the restarts", &counting.restarted, 0);
     is_told(&rt, "what was told of the root", &counting.of_root, 2);
+    is_told(&rt, "what was told with an id", &counting.named, 10);
+}
+
+// Where a supervisor gives up its flags are told: of one below the root that is started again twice, and of the root.
+#[test]
+fn a_watch_is_told_who_gave_up(rt: HostRuntime) {
+    let shared = Shared::new(&rt, rt.alloc());
+    let counting = Counting::new();
+    let below = [Kind::Crashes(u64::MAX)];
+    let plans = tree(&rt, rt.alloc(), &[], &below, &shared, flags(2));
+    let seen = run_watched(&rt, rt.alloc(), plans, 2, &shared.stop, &counting);
+    drop(shared);
+    same(&rt, "the processes that are left", seen.live, 0);
+    is_told(&rt, "the stops of supervisors", &counting.stopped, 0);
+    is_told(&rt, "what was borne by the four", &counting.gave_up, 8);
+    is_told(&rt, "the crashes", &counting.exited, 9);
+    // At each opening of the one below its child starts, and so does the root; the rest are restarts.
+    is_told(&rt, "the starts", &counting.started, 5);
+    is_told(&rt, "the restarts", &counting.restarted, 8);
 }
 
 fn is_told(rt: &impl Abort, what: &str, told: &AtomicU64, wanted: u64) {

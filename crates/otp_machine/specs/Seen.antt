@@ -84,6 +84,29 @@ pub record HasMemory (m : Machine) : Type 0 where
   pub kept_stamps : m.window.intensity < vec_capacity m.spare_kept_stamps
   pub ends : vec_len m.ends < vec_capacity m.ends
 
+-- there is memory for children that are stopped and started
+pub record HasWorkMemory (m : Machine) : Type 0 where
+  pub to_stop : length m.rows.rows ≤ vec_capacity m.to_stop
+  pub one_stop : 0 < vec_capacity m.to_stop
+  pub to_start : length m.rows.rows ≤ deque_capacity m.to_start
+  pub specs : vec_len m.specs ≤ deque_capacity m.to_start
+  pub one_start : 0 < deque_capacity m.to_start
+  pub room : vec_len m.specs ≤ m.rows.room
+  pub one_row : 0 < m.rows.room
+
+-- there is memory for orders, and for answers to calls
+pub record HasCallMemory (m : Machine) : Type 0 where
+  pub orders : vec_len m.orders + length m.rows.rows + length m.waiting.items + 1 < vec_capacity m.orders
+  pub replies : length m.waiting.items + 1 < m.replies.room
+  pub waiting : 0 < m.waiting.room
+  pub lines : length m.rows.rows ≤ vec_capacity m.spare_lines
+
+-- there is memory for the end of the supervisor
+pub record HasEndMemory (m : Machine) : Type 0 where
+  pub stamps : m.window.intensity < vec_capacity m.spare_stamps
+  pub kept_stamps : m.window.intensity < vec_capacity m.spare_kept_stamps
+  pub ends : vec_len m.ends < vec_capacity m.ends
+
 -- what holds of every machine
 pub record IsSound (m : Machine) : Type 0 where
   pub limit : length m.specs.items ≤ MAX_CHILDREN

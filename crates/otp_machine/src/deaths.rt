@@ -1,4 +1,4 @@
-//! A child ends by itself with no work open, or its restart is tried again (`specs/Deaths` of the rules).
+//! A child has ended, with work open or without; or its restart is tried again (`specs/Deaths` of the rules).
 
 ghost use Rattle.std.specs.Prelude.{◌≡◌, ◌<◌, ◌≤◌, Some, length, slice_get};
 ghost use Rattle.std.specs.VecDeque.{deque_capacity};
@@ -78,15 +78,15 @@ impl Machine {
 
     /// The process ended by itself, with no work open.
     #[tactic(auto, unfolding(otp_rules::specs::Deaths::death))]
-    fn death(&mut self, place: usize, number: u64, reason: Reason)
+    fn death(&mut self, place: usize, number: u64, reason: &Reason)
         requires room { CanDecide self.old }
         requires place { place < length self.old.rows.rows }
         ensures outcome { (row : Row) → slice_get self.old.rows.rows place ≡ Some row →
-            outcome_of self.new ≡ death number reason place row (outcome_of self.old) }
+            outcome_of self.new ≡ death number reason.now place row (outcome_of self.old) }
         ensures room { CanAdvance self.new }
     {
         let restart = self.rows.get(place).spec.restart;
-        if is_restarted(restart, &reason) {
+        if is_restarted(restart, reason) {
             self.restart(place, number);
         } else {
             let row = *self.rows.get(place);
@@ -97,9 +97,9 @@ impl Machine {
 
     /// The note Exit.
     #[tactic(auto, unfolding(otp_rules::specs::Deaths::take_exit, otp_rules::specs::Deaths::exit_in, otp_rules::specs::Places::at_number, otp_rules::specs::Places::at_row, otp_rules::specs::Places::at_found, otp_rules::specs::Places::at_place))]
-    pub(crate) fn take_exit(&mut self, number: u64, reason: Reason)
+    pub(crate) fn take_exit(&mut self, number: u64, reason: &Reason)
         requires { CanDecide self.old }
-        ensures outcome { outcome_of self.new ≡ take_exit number reason (outcome_of self.old) }
+        ensures outcome { outcome_of self.new ≡ take_exit number reason.now (outcome_of self.old) }
         ensures room { CanAdvance self.new }
     {
         let Some(place) = self.rows.find_process(number) else {
@@ -108,11 +108,11 @@ impl Machine {
         match self.rows.get(place).state {
             RowState::Undefined | RowState::Restarting(_) => {}
             RowState::Starting(..) => self.put_last(Waiting::Item(Item::Note(Note::Exit(
-                number, reason,
+                number, *reason,
             )))),
             RowState::Up(_) => {
                 if self.follows.is_some() {
-                    self.put_last(Waiting::Item(Item::Note(Note::Exit(number, reason))));
+                    self.put_last(Waiting::Item(Item::Note(Note::Exit(number, *reason))));
                 } else {
                     self.death(place, number, reason);
                 }

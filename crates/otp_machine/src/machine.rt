@@ -1,6 +1,6 @@
 //! What events change (`specs/State` of the rules).
 
-ghost use Rattle.std.specs.Prelude.{◌≡◌, ◌+◌, ◌<◌, ◌≤◌, OnOk, vec_len, vec_capacity};
+ghost use Rattle.std.specs.Prelude.{◌≡◌, ◌+◌, ◌<◌, ◌≤◌, IsTrue, OnOk, vec_len, vec_capacity};
 ghost use Rattle.std.specs.VecDeque.{deque_capacity};
 ghost use Rattle.otp_machine.specs.declared.machine.TheConstants.{ROOM_LIMIT};
 
@@ -47,7 +47,7 @@ pub struct Machine {
 }
 
 impl Machine {
-    ghost use Rattle.otp_machine.specs.Seen.{outcome_of, CanAdvance, CanDecide, HasMemory, IsSound};
+    ghost use Rattle.otp_machine.specs.Seen.{outcome_of, CanAdvance, CanDecide, HasCallMemory, HasEndMemory, HasMemory, HasWorkMemory, IsSound};
     ghost use Rattle.otp_rules.specs.State.{answer, closed, put_last};
     ghost use Rattle.otp_rules.specs.Cuts.{base_of};
 
@@ -64,6 +64,65 @@ impl Machine {
 
     /// Takes the memory of the next event. The state and the orders stay as they were.
     pub fn prepare(&mut self) -> Result<(), AllocError>
+        requires { IsSound self.old }
+        ensures outcome { outcome_of self.new ≡ outcome_of self.old }
+        ensures specs { vec_len self.new.specs ≡ vec_len self.old.specs }
+        ensures ok { OnOk result (HasMemory self.new) }
+    {
+        self.window.reserve()?;
+        if self.has_memory() {
+            return Ok(());
+        }
+        self.take_memory()
+    }
+
+    /// Whether the memory of the next event is there. Most events find what an earlier one has taken and not used.
+    fn has_memory(&self) -> bool
+        requires { IsSound self.now }
+        ensures { IsTrue result → HasMemory self.now }
+    {
+        self.window.is_reserved()
+            && self.has_work_memory()
+            && self.has_call_memory()
+            && self.has_end_memory()
+    }
+
+    /// Whether there is memory for children that are stopped and started.
+    fn has_work_memory(&self) -> bool
+        requires { IsSound self.now }
+        ensures { IsTrue result → HasWorkMemory self.now }
+    {
+        let rows = self.rows.len();
+        let specs = self.specs.len();
+        rows < self.to_stop.capacity()
+            && rows + specs < self.to_start.capacity()
+            && specs < self.rows.room()
+    }
+
+    /// Whether there is memory for orders, and for answers to calls.
+    fn has_call_memory(&self) -> bool
+        ensures { IsTrue result → HasCallMemory self.now }
+    {
+        let rows = self.rows.len();
+        let waiting = self.waiting.len();
+        rows + waiting + 1 < self.orders.capacity() - self.orders.len()
+            && waiting + 1 < self.replies.room()
+            && self.waiting.room() > 0
+            && rows <= self.spare_lines.capacity()
+    }
+
+    /// Whether there is memory for the end of the supervisor.
+    fn has_end_memory(&self) -> bool
+        ensures { IsTrue result → HasEndMemory self.now }
+    {
+        let stamps = self.window.intensity() as usize;
+        self.ends.len() < self.ends.capacity()
+            && stamps < self.spare_stamps.capacity()
+            && stamps < self.spare_kept_stamps.capacity()
+    }
+
+    /// Takes what memory is lacking for the next event.
+    fn take_memory(&mut self) -> Result<(), AllocError>
         requires { IsSound self.old }
         ensures outcome { outcome_of self.new ≡ outcome_of self.old }
         ensures specs { vec_len self.new.specs ≡ vec_len self.old.specs }

@@ -72,11 +72,11 @@ impl Machine {
 
     /// The start of the child at the place failed.
     #[tactic(auto, unfolding(otp_rules::specs::Starts::failed_after))]
-    fn failed_after(&mut self, place: usize, reason: Reason, kept: u64)
+    fn failed_after(&mut self, place: usize, reason: &Reason, kept: u64)
         requires room { CanDecide self.old }
         requires place { place < length self.old.rows.rows }
         ensures outcome { (row : Row) → slice_get self.old.rows.rows place ≡ Some row →
-            outcome_of self.new ≡ failed_after reason kept place row self.old.follows (outcome_of self.old) }
+            outcome_of self.new ≡ failed_after reason.now kept place row self.old.follows (outcome_of self.old) }
         ensures room { CanAdvance self.new }
     {
         match self.follows {
@@ -94,21 +94,21 @@ impl Machine {
             Some(Sequel::Added(call)) => {
                 self.rows.remove(place);
                 self.close();
-                self.answer(call, Reply::Refused(CallFault::Start(reason)));
+                self.answer(call, Reply::Refused(CallFault::Start(*reason)));
             }
             Some(Sequel::Restarted(call)) => {
                 self.rows.set_state(place, RowState::Undefined);
                 self.close();
-                self.answer(call, Reply::Refused(CallFault::Start(reason)));
+                self.answer(call, Reply::Refused(CallFault::Start(*reason)));
             }
         }
     }
 
     /// The note Failed.
     #[tactic(auto, unfolding(otp_rules::specs::Starts::take_failed, otp_rules::specs::Starts::at_starting, otp_rules::specs::Places::at_number, otp_rules::specs::Places::at_row, otp_rules::specs::Places::at_found, otp_rules::specs::Places::at_place))]
-    pub(crate) fn take_failed(&mut self, number: u64, reason: Reason)
+    pub(crate) fn take_failed(&mut self, number: u64, reason: &Reason)
         requires { CanDecide self.old }
-        ensures outcome { outcome_of self.new ≡ take_failed number reason (outcome_of self.old) }
+        ensures outcome { outcome_of self.new ≡ take_failed number reason.now (outcome_of self.old) }
         ensures room { CanAdvance self.new }
     {
         let Some(place) = self.rows.find_process(number) else {

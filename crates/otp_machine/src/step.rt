@@ -18,16 +18,16 @@ impl Machine {
     ghost use Rattle.otp_rules.specs.Needs.{needs_number};
 
     #[tactic(auto, unfolding(otp_rules::specs::Step::take_note))]
-    fn take_note(&mut self, note: Note)
+    fn take_note(&mut self, note: &Note)
         requires { CanDecide self.old }
-        ensures outcome { outcome_of self.new ≡ take_note note (outcome_of self.old) }
+        ensures outcome { outcome_of self.new ≡ take_note note.now (outcome_of self.old) }
         ensures room { CanAdvance self.new }
     {
         match note {
-            Note::Up(p) => self.take_up(p),
-            Note::Ignored(p) => self.take_ignored(p),
-            Note::Failed(p, reason) => self.take_failed(p, reason),
-            Note::Exit(p, reason) => self.take_exit(p, reason),
+            Note::Up(p) => self.take_up(*p),
+            Note::Ignored(p) => self.take_ignored(*p),
+            Note::Failed(p, reason) => self.take_failed(*p, reason),
+            Note::Exit(p, reason) => self.take_exit(*p, reason),
         }
     }
 
@@ -55,7 +55,7 @@ impl Machine {
         match item {
             Item::Note(note) => {
                 if !is_over(self.phase) {
-                    self.take_note(*note);
+                    self.take_note(note);
                 }
             }
             Item::Call(number, call) => self.ask(*number, call),

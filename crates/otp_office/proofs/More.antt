@@ -8,6 +8,8 @@ use Rattle.otp_bodies.specs.declared.port.Flushed.{Flushed}
 use Rattle.otp_bodies.specs.declared.port.Flushed.TheVariants as flushed
 use Rattle.otp_bodies.specs.declared.port.Launched.{Launched}
 use Rattle.otp_bodies.specs.declared.port.ToldNote.{ToldNote}
+use Rattle.otp_core.specs.Again.{starts_again}
+use Rattle.otp_core.specs.View.{state_of}
 use Rattle.otp_office.specs.Offices.{OfficeView}
 use Rattle.std.proofs.lemmas.Bool.{false≢true}
 use Rattle.otp_office.specs.Flushes.{Flushes, IsSent, first_end, was_sent}
@@ -39,7 +41,7 @@ took_note before after refusals later n is le = record {
 }
 
 sent_more : (how : Sending) (old new : OfficeView) (before after : Taken) (refusals later : ℕ) → IsSent how old new before after → refusals ≤ later → TookMore before after refusals later
-sent_more (sending.Start n) old new before after refusals later s le = took_process before after refusals later (launched n s.slot true) s.took le
+sent_more (sending.Start id n) old new before after refusals later s le = took_process before after refusals later (launched n s.slot id (starts_again (state_of old.core).follows) true) s.took le
 sent_more (sending.Ask n) old new before after refusals later s le = took_none before after refusals later s.took le
 sent_more (sending.Kill n) old new before after refusals later s le = took_none before after refusals later s.took le
 sent_more (sending.Tell x) old new before after refusals later s le = took_note before after refusals later (told x (first_end old.outbox)) s.took le

@@ -5,6 +5,7 @@ use Rattle.otp_bodies.specs.declared.port.Flushed.{Flushed}
 use Rattle.otp_bodies.specs.declared.port.Flushed.TheVariants as flushed
 use Rattle.otp_rules.specs.declared.event.Effect.{Effect}
 use Rattle.otp_rules.specs.declared.event.Effect.TheVariants as effect
+use Rattle.otp_reason.specs.declared.name.Name.{Name}
 use Rattle.otp_reason.specs.declared.note.Note.TheVariants as note
 use Rattle.otp_rules.specs.State.{own_number}
 use Rattle.otp_core.specs.View.{state_of}
@@ -17,17 +18,17 @@ use Rattle.otp_office.specs.Flushes.{Flushes, IsFirst, end_note, sending_of}
 use Rattle.otp_bodies.specs.Ports.{Taken}
 
 -- where the first order starts a process, a child is to be started
-start_slot : (x : Effect) (own n : ℕ) (rows : List Row) → sending_of own x ≡ Some (sending.Start n) → IsSome (slot_started rows (started_by x))
-start_slot (effect.Start id p) own n rows is = refl
-start_slot (effect.Ask id p) own n rows is = let e : Some (sending.Ask p) ≡ Some (sending.Start n) = is in cc
-start_slot (effect.Kill id p) own n rows is = let e : Some (sending.Kill p) ≡ Some (sending.Start n) = is in cc
-start_slot (effect.Reply c) own n rows is = let e : ◌≡◌ {A = Option Sending} None (Some (sending.Start n)) = is in cc
-start_slot effect.Ready own n rows is = let e : Some (sending.Tell (note.Up own)) ≡ Some (sending.Start n) = is in cc
-start_slot (effect.End x) own n rows is = let e : Some (sending.Tell (end_note own x)) ≡ Some (sending.Start n) = is in cc
+start_slot : (x : Effect) (own : ℕ) (name : Option Name) (n : ℕ) (rows : List Row) → sending_of own x ≡ Some (sending.Start name n) → IsSome (slot_started rows (started_by x))
+start_slot (effect.Start id p) own name n rows is = refl
+start_slot (effect.Ask id p) own name n rows is = let e : Some (sending.Ask p) ≡ Some (sending.Start name n) = is in cc
+start_slot (effect.Kill id p) own name n rows is = let e : Some (sending.Kill p) ≡ Some (sending.Start name n) = is in cc
+start_slot (effect.Reply c) own name n rows is = let e : ◌≡◌ {A = Option Sending} None (Some (sending.Start name n)) = is in cc
+start_slot effect.Ready own name n rows is = let e : Some (sending.Tell (note.Up own)) ≡ Some (sending.Start name n) = is in cc
+start_slot (effect.End x) own name n rows is = let e : Some (sending.Tell (end_note own x)) ≡ Some (sending.Start name n) = is in cc
 
-pub starts_slot : (o : OfficeView) (how : Sending) (n : ℕ) (rows : List Row) → IsFirst o how → how ≡ sending.Start n → IsSome (starting_slot o.outbox rows)
-starts_slot o how n rows f is =
-    subst (λ (l : List Effect). IsSome (starting_slot l rows)) (sym f.outbox) (start_slot f.order (own_number (state_of o.core).phase) n rows (f.sends ∙ ap (λ (h : Sending). Some h) is))
+pub starts_slot : (o : OfficeView) (how : Sending) (name : Option Name) (n : ℕ) (rows : List Row) → IsFirst o how → how ≡ sending.Start name n → IsSome (starting_slot o.outbox rows)
+starts_slot o how name n rows f is =
+    subst (λ (l : List Effect). IsSome (starting_slot l rows)) (sym f.outbox) (start_slot f.order (own_number (state_of o.core).phase) name n rows (f.sends ∙ ap (λ (h : Sending). Some h) is))
 
 -- no order that is sent changes the core
 pub flushes_core : (how : Flushed) (old new : OfficeView) (before after : Taken) (refusals later : ℕ) → Flushes how old new before after refusals later → new.core ≡ old.core
@@ -44,7 +45,7 @@ flushes_none flushed.Refused old new before after refusals later rows h is = let
 -- the process that is put where an order is sent so
 abbrev pub put_by : Option Sending → Option ℕ
 put_by None = None
-put_by (Some (sending.Start n)) = Some n
+put_by (Some (sending.Start _ n)) = Some n
 put_by (Some (sending.Ask _)) = None
 put_by (Some (sending.Kill _)) = None
 put_by (Some (sending.Tell _)) = None

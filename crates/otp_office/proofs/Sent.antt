@@ -7,6 +7,7 @@ use Rattle.otp_rules.specs.declared.event.Effect.TheVariants as effect
 use Rattle.otp_reason.specs.declared.note.Note.{Note}
 use Rattle.otp_reason.specs.declared.note.Note.TheVariants as note
 use Rattle.otp_rules.specs.State.{own_number}
+use Rattle.otp_core.specs.Again.{starts_again}
 use Rattle.otp_core.specs.View.{View, state_of}
 use Rattle.otp_office.specs.declared.orders.Sending.{Sending}
 use Rattle.otp_office.specs.declared.orders.Sending.TheVariants as sending
@@ -24,8 +25,8 @@ how_is a b h = ap (λ (o : Option Sending). unwrap_or o a) h
 order_taken : (old new : OfficeView) (before after : Taken) (x : Effect) (rest : List Effect) (how : Sending) → old.outbox ≡ x ∷ rest → sending_of (own_number (state_of old.core).phase) x ≡ Some how → IsSent how old new before after → after ≡ after_order old.core old.first_slot x before
 order_taken old new before after (effect.Start id n) rest how first is s =
     let Sent : Sending → Type 0 = λ h. IsSent h old new before after in
-    let p : IsPut n old new before after = subst Sent (sym (how_is (sending.Start n) how is)) s in
-    p.took ∙ ap (λ (slot : ℕ). record before { processes = before.processes ++ launched n slot true ∷ [] }) p.posted.of_row
+    let p : IsPut id n old new before after = subst Sent (sym (how_is (sending.Start id n) how is)) s in
+    p.took ∙ ap (λ (slot : ℕ). record before { processes = before.processes ++ launched n slot id (starts_again (state_of old.core).follows) true ∷ [] }) p.posted.of_row
 order_taken old new before after (effect.Ask id n) rest how first is s =
     let Sent : Sending → Type 0 = λ h. IsSent h old new before after in
     let p : IsAsked n signal.Shutdown old new before after = subst Sent (sym (how_is (sending.Ask n) how is)) s in

@@ -3,6 +3,7 @@ use Rattle.std.proofs.Common.{◌≡◌, ℕ, zero, suc, ◌+◌, ◌++◌, List
 use Rattle.std.specs.Prelude.{is_some, true}
 use Rattle.std.proofs.lemmas.List.{take-append-le}
 use Rattle.std.proofs.lemmas.List.Elements.{filter_map-append}
+use Rattle.otp_core.specs.Again.{starts_again}
 use Rattle.otp_core.specs.View.{View, state_of}
 use Rattle.otp_rules.specs.declared.event.Effect.{Effect}
 use Rattle.otp_rules.specs.declared.event.Effect.TheVariants as effect
@@ -95,8 +96,8 @@ starts_sent_on flushed.Sent old new before after refusals later keeps f =
 
 -- the port took a process more exactly there
 put_once : (how : Sending) (old new : OfficeView) (before after : Taken) (rows : List Row) → IsSent how old new before after → length after.processes ≡ length before.processes + one_if (is_some (slot_started rows (put_by (Some how))))
-put_once (sending.Start n) old new before after rows s =
-    let more = ap (λ (t : Taken). length t.processes) s.took ∙ length-append before.processes (launched n s.slot true ∷ []) in omega (arith, more)
+put_once (sending.Start id n) old new before after rows s =
+    let more = ap (λ (t : Taken). length t.processes) s.took ∙ length-append before.processes (launched n s.slot id (starts_again (state_of old.core).follows) true ∷ []) in omega (arith, more)
 put_once (sending.Ask n) old new before after rows s = let same = ap (λ (t : Taken). length t.processes) s.took in omega (arith, same)
 put_once (sending.Kill n) old new before after rows s = let same = ap (λ (t : Taken). length t.processes) s.took in omega (arith, same)
 put_once (sending.Tell x) old new before after rows s = let same = ap (λ (t : Taken). length t.processes) s.took in omega (arith, same)

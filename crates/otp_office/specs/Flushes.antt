@@ -3,6 +3,7 @@ use Rattle.std.specs.Prelude.{◌≡◌, ℕ, ◌+◌, Option, is_some, ◌<◌,
 use Rattle.otp_bodies.specs.declared.port.Flushed.{Flushed}
 use Rattle.otp_bodies.specs.declared.port.Flushed.TheVariants as flushed
 use Rattle.otp_bodies.specs.Letters.{one_if}
+use Rattle.otp_reason.specs.declared.name.Name.{Name}
 use Rattle.otp_reason.specs.declared.note.Note.{Note}
 use Rattle.otp_reason.specs.declared.note.Note.TheVariants as note
 use Rattle.otp_reason.specs.declared.reason.Reason.{Reason}
@@ -13,6 +14,7 @@ use Rattle.otp_rules.specs.declared.event.Effect.{Effect}
 use Rattle.otp_rules.specs.declared.event.Effect.TheVariants as effect
 use Rattle.otp_rules.specs.Ended.{end_in}
 use Rattle.otp_rules.specs.State.{own_number}
+use Rattle.otp_core.specs.Again.{starts_again}
 use Rattle.otp_core.specs.View.{View, state_of}
 use Rattle.otp_signals.specs.declared.signal.Signal.{Signal}
 use Rattle.otp_signals.specs.declared.signal.Signal.TheVariants as signal
@@ -45,7 +47,7 @@ end_note own e = end_note_by own e.reason e.cause
 
 -- how an order of the supervisor with this number is sent
 abbrev pub sending_of : ℕ → Effect → Option Sending
-sending_of own (effect.Start _ n) = Some (sending.Start n)
+sending_of own (effect.Start id n) = Some (sending.Start id n)
 sending_of own (effect.Ask _ n) = Some (sending.Ask n)
 sending_of own (effect.Kill _ n) = Some (sending.Kill n)
 sending_of own (effect.Reply _) = None
@@ -82,11 +84,12 @@ pub record IsPosted (number : ℕ) (told : Signal) (slot : ℕ) (old new : Offic
   pub owner : new.owner ≡ after_post slot (word_of number told) old.owner
   pub of_row : slot ≡ old.first_slot + slot_of (state_of old.core).rows number
 
--- the process stands last in what the port took, with its body
-pub record IsPut (number : ℕ) (old new : OfficeView) (before after : Taken) : Type 0 where
+-- the process stands last in what the port took, with its body: it is one of the child with this id, and a restart where the open
+-- work starts children again
+pub record IsPut (id : Option Name) (number : ℕ) (old new : OfficeView) (before after : Taken) : Type 0 where
   pub slot : ℕ
   pub posted : IsPosted number signal.None slot old new
-  pub took : after ≡ record before { processes = before.processes ++ launched number slot true ∷ [] }
+  pub took : after ≡ record before { processes = before.processes ++ launched number slot id (starts_again (state_of old.core).follows) true ∷ [] }
 
 -- a signal was posted, and the port took nothing
 pub record IsAsked (number : ℕ) (told : Signal) (old new : OfficeView) (before after : Taken) : Type 0 where
@@ -100,7 +103,7 @@ pub record IsTold (note : Note) (old new : OfficeView) (before after : Taken) : 
   pub took : after ≡ record before { notes = before.notes ++ told note (first_end old.outbox) ∷ [] }
 
 abbrev pub IsSent : Sending → OfficeView → OfficeView → Taken → Taken → Type 0
-IsSent (sending.Start n) old new before after = IsPut n old new before after
+IsSent (sending.Start id n) old new before after = IsPut id n old new before after
 IsSent (sending.Ask n) old new before after = IsAsked n signal.Shutdown old new before after
 IsSent (sending.Kill n) old new before after = IsAsked n signal.Kill old new before after
 IsSent (sending.Tell x) old new before after = IsTold x old new before after
@@ -122,7 +125,7 @@ pub record IsPrepared (number : ℕ) (old new : OfficeView) : Type 0 where
 
 -- what a port that refuses leaves behind of an order: a start has posted its word, a note nothing
 abbrev pub IsRefused : Sending → OfficeView → OfficeView → Type 0
-IsRefused (sending.Start n) old new = IsPrepared n old new
+IsRefused (sending.Start _ n) old new = IsPrepared n old new
 IsRefused (sending.Ask _) old new = ⊥
 IsRefused (sending.Kill _) old new = ⊥
 IsRefused (sending.Tell _) old new = new.owner ≡ old.owner
@@ -139,7 +142,8 @@ pub record SentNone (old new : OfficeView) : Type 0 where
 
 -- what a port has taken once this order was sent too, of a supervisor in this state whose slots begin here
 abbrev pub after_order : View → ℕ → Effect → Taken → Taken
-after_order core first (effect.Start _ n) t = record t { processes = t.processes ++ launched n (first + slot_of (state_of core).rows n) true ∷ [] }
+after_order core first (effect.Start id n) t =
+    record t { processes = t.processes ++ launched n (first + slot_of (state_of core).rows n) id (starts_again (state_of core).follows) true ∷ [] }
 after_order core first (effect.Ask _ n) t = t
 after_order core first (effect.Kill _ n) t = t
 after_order core first (effect.Reply _) t = t

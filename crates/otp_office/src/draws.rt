@@ -61,5 +61,5 @@ pub(crate) fn step_drawing<N: WordsNaming>(
     ensures effects { core.new.effects ≡ core.old.effects ++ (step (state_of core.old) (record { reading = reading; number = result; kind = kind })).orders }
 {
     let mut draws = Draws { words, owner };
-    core.step_with(reading, kind, &mut draws)
+    core.step_with(reading, &kind, &mut draws)
 }

@@ -6,14 +6,14 @@ ghost use Rattle.otp_rules.specs.Ended.{end_in};
 ghost use Rattle.otp_office.specs.Orders.{orders_in, starts_in, has_some};
 ghost use Rattle.otp_office.specs.Flushes.{sending_of, end_note};
 
-use otp_reason::Note;
+use otp_reason::{Name, Note};
 use otp_rules::{Cause, Effect, SupEnd};
 
 /// How an order is sent.
 #[derive(Clone, Copy, Debug, PartialEq, Eq)]
 pub enum Sending {
-    /// A process is put, with this number.
-    Start(u64),
+    /// A process of the child with this id is put, with this number.
+    Start(Option<Name>, u64),
     /// A shutdown is posted for the process with this number.
     Ask(u64),
     /// A kill is posted for it.
@@ -37,7 +37,7 @@ pub(crate) fn sending_of(order: &Effect, own: u64) -> Option<Sending>
     ensures { result ≡ sending_of own order.now }
 {
     match order {
-        Effect::Start(_, number) => Some(Sending::Start(*number)),
+        Effect::Start(id, number) => Some(Sending::Start(*id, *number)),
         Effect::Ask(_, number) => Some(Sending::Ask(*number)),
         Effect::Kill(_, number) => Some(Sending::Kill(*number)),
         Effect::Reply(_) => None,

@@ -91,13 +91,13 @@ impl<N: WordsNaming> Office<N> {
         ensures { result ≡ slot_to_start self.now }
     {
         match self.first() {
-            Some(Sending::Start(number)) => Some(self.row_slot(number)),
+            Some(Sending::Start(_, number)) => Some(self.row_slot(number)),
             _ => None,
         }
     }
 
-    /// Sends the first order: posts what it says, and puts the process with this body, which a start must have, or tells
-    /// the parent. What comes back is the body, but for a process that the port took with it.
+    /// Sends the first order: posts what it says, of which the port hears; and puts the process with this body, which a start must
+    /// have, or tells the parent. What comes back is the body, but for a process that the port took with it.
     pub fn flush_one<B: Drop, P: Port<B>>(
         &mut self,
         words: &Words<N>,
@@ -116,21 +116,31 @@ impl<N: WordsNaming> Office<N> {
             return (Flushed::Empty, body);
         };
         match how {
-            Sending::Start(number) => {
+            Sending::Start(id, number) => {
+                let again = self.core.starts_again();
                 let slot = self.post(words, number, Signal::None);
-                if let Err(back) = port.put(NewProcess { number, slot, body }) {
+                let process = NewProcess {
+                    number,
+                    slot,
+                    id,
+                    again,
+                    body,
+                };
+                if let Err(back) = port.put(process) {
                     return (Flushed::Refused, back.body);
                 }
                 self.advance();
                 (Flushed::Sent, None)
             }
             Sending::Ask(number) => {
-                self.post(words, number, Signal::Shutdown);
+                let slot = self.post(words, number, Signal::Shutdown);
+                port.posted(slot);
                 self.advance();
                 (Flushed::Sent, body)
             }
             Sending::Kill(number) => {
-                self.post(words, number, Signal::Kill);
+                let slot = self.post(words, number, Signal::Kill);
+                port.posted(slot);
                 self.advance();
                 (Flushed::Sent, body)
             }

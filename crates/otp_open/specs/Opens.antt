@@ -1,5 +1,5 @@
 -- Which slots of signal words whose they are, and what schedulers are before hands are made of them. (own)
-use Rattle.std.specs.Prelude.{◌≡◌, ℕ, zero, suc, ◌+◌, ◌*◌, List, [], ◌∷◌, length}
+use Rattle.std.specs.Prelude.{◌≡◌, ℕ, zero, suc, ◌+◌, ◌*◌, false, List, [], ◌∷◌, None, length}
 use Rattle.otp_job.specs.declared.process.Ticket.{Ticket}
 use Rattle.otp_run.specs.Lists.{AllAt}
 use Rattle.otp_run.specs.Opens.{opened}
@@ -43,7 +43,7 @@ pub record IsOpened (root : Ticket) (count place : ℕ) (s : SchedulerState) : T
 
 -- the root's process: it has the root's number and slot, and tells whoever opened a tree of so many supervisors
 abbrev pub root_ticket : ℕ → Ticket
-root_ticket tables = record { number = ROOT_NUMBER; slot = ROOT_SLOT; table = tables }
+root_ticket tables = record { number = ROOT_NUMBER; slot = ROOT_SLOT; table = tables; id = None; again = false }
 
 module _ {J S : Type 0} where
   -- the hands of a tree that was just opened, in the order of their schedulers: so many as there are, and the first has put

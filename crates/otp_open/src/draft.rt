@@ -8,7 +8,7 @@ ghost use Rattle.otp_open.specs.Drafts.{nested_spec};
 use crate::plan::TablePlan;
 use otp_job::{Body, TableNo};
 use otp_reason::Name;
-use otp_spec::{ChildSpec, ChildType, Shutdown, SpecFault, SupFlags, SupSpec, check_supervisor};
+use otp_spec::{ChildSpec, ChildType, SpecFault, SupFlags, SupSpec, check_supervisor};
 use std::alloc::{AllocError, Global};
 use std::marker::Model;
 
@@ -109,11 +109,7 @@ impl<J: Drop, S: Drop> TableDraft<J, S> {
         ensures added { OnOk result (self.new ≡ record { specs = self.old.specs ++ nested_spec id ∷ []; bodies = self.old.bodies ++ body.Sup table ∷ [] }) }
         ensures same { OnErr result (self.new ≡ self.old) }
     {
-        let spec = ChildSpec {
-            kind: ChildType::Supervisor,
-            shutdown: Shutdown::Infinity,
-            ..ChildSpec::new(id, id)
-        };
+        let spec = ChildSpec::of(ChildType::Supervisor, id, id);
         match self.add(spec, Body::Sup(TableNo::new(table))) {
             Ok(()) => Ok(()),
             Err(_) => Err(AllocError),

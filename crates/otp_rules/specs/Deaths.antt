@@ -1,4 +1,4 @@
--- A child ends by itself with no work open, or its restart is tried again
+-- A child has ended, with work open or without; or its restart is tried again
 -- (Supervisor Behaviour, Child Specification, restart, and Maximum Restart Intensity).
 --
 -- From an exit to the order that starts the child again: `take_exit` finds the row, `exit_in` goes by its state, `death` asks whether

@@ -22,8 +22,10 @@ is_restarted Temporary r = false
 
 -- the first place that a restart of the child at a place affects
 abbrev pub affected_from : Strategy → ℕ → ℕ
+affected_from OneForOne place = place
 affected_from OneForAll place = 0
-affected_from _ place = place
+affected_from RestForOne place = place
+affected_from SimpleOneForOne place = place
 
 -- the place after the last one that it affects, of so many
 abbrev pub affected_to : Strategy → ℕ → ℕ → ℕ

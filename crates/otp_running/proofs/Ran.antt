@@ -1,5 +1,5 @@
 -- What came of a run of a tree, by how many processes it has left.
-use Rattle.std.proofs.Common.{◌≡◌, ℕ, ◌<◌, ◌⊎◌, Bool, true, false, inl, inr, List, [], Option, None, Ok, length, sym, subst}
+use Rattle.std.proofs.Common.{◌≡◌, ℕ, ◌⊎◌, Bool, true, false, inl, inr, List, [], Option, None, Ok, sym, subst}
 use Rattle.std.specs.Prelude.{⊤}
 use Rattle.otp_file.specs.Files.{Says}
 use Rattle.otp_file.specs.Trees.{Tree, tables_of}
@@ -17,7 +17,7 @@ use Rattle.otp_ending.specs.declared.ending.ProgramEnd.TheVariants.{Done, NotFin
 
 -- its report was written
 pub run_done : (is_json : Bool) (name : List ℕ) (counted : Bool) (file : List ℕ) (old new : Written) (ending : ProgramEnd) (tree : Tree) (run : CountedRun WorkedJob Calm)
-    → Says file (Ok tree) → plan_fault (tables_of tree) ≡ None → HasReport is_json name file counted (length (tables_of tree)) run old.bytes new.bytes
+    → Says file (Ok tree) → plan_fault (tables_of tree) ≡ None → HasReport is_json name file counted (tables_of tree) run old.bytes new.bytes
     → IsEndOfRun run.report.live ending → IsTreeRun is_json name counted ending file old new
 run_done is_json name counted file old new ending tree run says runnable report (inl (is, none)) =
     subst (λ (e : ProgramEnd). IsTreeRun is_json name counted e file old new) (sym is) (tree, (says, (runnable, (run, (report, none)))))
@@ -26,7 +26,7 @@ run_done is_json name counted file old new ending tree run says runnable report 
 
 -- the same of a tree that was served for a time
 pub serve_done : (is_json : Bool) (name file : List ℕ) (old new : Written) (ending : ProgramEnd) (tree : Tree) (report : Report PatientJob Calm)
-    → Says file (Ok tree) → plan_fault (tables_of tree) ≡ None → HasServedReport is_json name file (length (tables_of tree)) report old.bytes new.bytes
+    → Says file (Ok tree) → plan_fault (tables_of tree) ≡ None → HasServedReport is_json name file (tables_of tree) report old.bytes new.bytes
     → IsEndOfRun report.live ending → IsTreeServed is_json name ending file old new
 serve_done is_json name file old new ending tree report says runnable served (inl (is, none)) =
     subst (λ (e : ProgramEnd). IsTreeServed is_json name e file old new) (sym is) (tree, (says, (runnable, (report, (served, none)))))

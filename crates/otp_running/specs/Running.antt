@@ -1,11 +1,9 @@
 -- What a run of a tree writes (own).
-use Rattle.std.specs.Prelude.{◌≡◌, ◌⊎◌, ◌<◌, ⊤, ℕ, Bool, true, false, List, Option, None, Ok, [], length}
+use Rattle.std.specs.Prelude.{◌≡◌, ◌⊎◌, ◌<◌, ℕ, Bool, true, false, List, Option, None, Ok, [], length}
 use Rattle.std.specs.Io.KnownBytes.{Appends}
-use Rattle.otp_file.specs.declared.fault.TreeFault.{TreeFault}
-use Rattle.otp_file.specs.declared.fault.TreeFault.TheVariants.{TooManyTables}
 use Rattle.otp_file.specs.Files.{Says}
-use Rattle.otp_file.specs.Trees.{Tree, tables_of}
-use Rattle.otp_jobs.specs.Plans.{plan_fault}
+use Rattle.otp_file.specs.Trees.{Table, Tree, tables_of}
+use Rattle.otp_jobs.specs.Plans.{plan_fault, supervisors_of}
 use Rattle.otp_jobs.specs.Runs.{IsRunOf, run_text}
 use Rattle.otp_file.specs.declared.fault.TreeFault.TheVariants as fault
 use Rattle.otp_jobs.specs.declared.role.Calm.{Calm}
@@ -16,7 +14,7 @@ use Rattle.otp_starts.specs.Unfit.{HasStarts, IsRunnable}
 use Rattle.otp_objects.specs.Runs.{TellsRun}
 use Rattle.otp_serve.specs.Serves.{served_text}
 use Rattle.otp_serve.specs.declared.patient.PatientJob.{PatientJob}
-use Rattle.otp_close.specs.Closes.{IsReportOf}
+use Rattle.otp_close.specs.Closes.{HaveBegun, IsReportOf}
 use Rattle.otp_report.specs.declared.report.Report.{Report}
 use Rattle.otp_report.specs.declared.report.TableReport.{TableReport}
 use Rattle.otp_tree.specs.declared.whole.CountedRun.{CountedRun}
@@ -26,18 +24,13 @@ use Rattle.otp_ending.specs.Devices.{HasTree, Written}
 use Rattle.otp_ending.specs.declared.ending.ProgramEnd.{ProgramEnd}
 use Rattle.otp_ending.specs.declared.ending.ProgramEnd.TheVariants.{Done, TreeRefused, UnknownStart, WrongBody, CloseMismatch, CloseMissing, NotFinished, OutputFailed, OutOfMemory}
 
--- a fault that a supervisor may be refused for when it is opened; no tree that a file says is known to have one
-abbrev pub IsOfOpening : TreeFault → Type 0
-IsOfOpening TooManyTables = ⊤
-IsOfOpening _ = ⊥
-
 -- what is written of a run: this text, or an object of JSON with the name of the file
 abbrev pub IsSaid : Bool → List ℕ → List ℕ → List TableReport → ℕ → List ℕ → List ℕ → Type 0
 IsSaid false name file tables live plain text = text ≡ plain
 IsSaid true name file tables live plain text = (tree : Tree) × (Says file (Ok tree) × TellsRun name tree tables live [] text)
 
--- a run of so many supervisors, and its report, behind their counts where they are wanted; or the object of it
-abbrev pub HasReport : Bool → List ℕ → List ℕ → Bool → ℕ → CountedRun WorkedJob Calm → Option (List ℕ) → Option (List ℕ) → Type 0
+-- a run of the supervisors with these tables, and its report, behind their counts where they are wanted; or the object of it
+abbrev pub HasReport : Bool → List ℕ → List ℕ → Bool → List Table → CountedRun WorkedJob Calm → Option (List ℕ) → Option (List ℕ) → Type 0
 HasReport is_json name file counted tables run old new =
     IsRunOf tables run × ((text : List ℕ) × (IsSaid is_json name file run.report.tables.items run.report.live (run_text counted run) text × Appends old new text))
 
@@ -45,11 +38,11 @@ HasReport is_json name file counted tables run old new =
 abbrev pub HasRun : (ℕ → Type 0) → Bool → List ℕ → Bool → List ℕ → Written → Written → Type 0
 HasRun Left is_json name counted file old new =
     (tree : Tree) × (Says file (Ok tree) × ((plan_fault (tables_of tree) ≡ None)
-    × ((run : CountedRun WorkedJob Calm) × (HasReport is_json name file counted (length (tables_of tree)) run old.bytes new.bytes × Left run.report.live))))
+    × ((run : CountedRun WorkedJob Calm) × (HasReport is_json name file counted (tables_of tree) run old.bytes new.bytes × Left run.report.live))))
 
 -- a tree was not run, or its report could not be made or written
 abbrev pub IsNotRun : ProgramEnd → List ℕ → Written → Written → Type 0
-IsNotRun (TreeRefused why) file old new = (new ≡ old) × (IsFirstFault why file ⊎ (HasTree file × IsOfOpening why))
+IsNotRun (TreeRefused why) file old new = (new ≡ old) × IsFirstFault why file
 IsNotRun (UnknownStart name) file old new = (new ≡ old) × HasStarts file (plan.UnknownStart name)
 IsNotRun WrongBody file old new = (new ≡ old) × HasStarts file plan.WrongBody
 IsNotRun CloseMismatch file old new = (new ≡ old) × HasTree file
@@ -64,16 +57,16 @@ IsTreeRun is_json name counted Done file old new = HasRun (λ live. live ≡ 0) 
 IsTreeRun is_json name counted NotFinished file old new = HasRun (λ live. ¬ (live ≡ 0)) is_json name counted file old new
 IsTreeRun is_json name counted ending file old new = IsNotRun ending file old new
 
--- the report of a tree of so many supervisors that was served for a time, or the object of it
-abbrev pub HasServedReport : Bool → List ℕ → List ℕ → ℕ → Report PatientJob Calm → Option (List ℕ) → Option (List ℕ) → Type 0
+-- the report of a tree of the supervisors with these tables that was served for a time, or the object of it
+abbrev pub HasServedReport : Bool → List ℕ → List ℕ → List Table → Report PatientJob Calm → Option (List ℕ) → Option (List ℕ) → Type 0
 HasServedReport is_json name file tables report old new =
-    IsReportOf tables report × ((text : List ℕ) × (IsSaid is_json name file report.tables.items report.live (served_text report) text × Appends old new text))
+    IsReportOf (length tables) report × (HaveBegun (supervisors_of tables) report.tables.items × ((text : List ℕ) × (IsSaid is_json name file report.tables.items report.live (served_text report) text × Appends old new text)))
 
 -- the tree of a file was served to an end of this kind, and its report written
 abbrev pub HasServed : (ℕ → Type 0) → Bool → List ℕ → List ℕ → Written → Written → Type 0
 HasServed Left is_json name file old new =
     (tree : Tree) × (Says file (Ok tree) × ((plan_fault (tables_of tree) ≡ None)
-    × ((report : Report PatientJob Calm) × (HasServedReport is_json name file (length (tables_of tree)) report old.bytes new.bytes × Left report.live))))
+    × ((report : Report PatientJob Calm) × (HasServedReport is_json name file (tables_of tree) report old.bytes new.bytes × Left report.live))))
 
 -- a tree was served for a time, and its report written; or it was not. It is finished exactly where no process is left
 abbrev pub IsTreeServed : Bool → List ℕ → ProgramEnd → List ℕ → Written → Written → Type 0
@@ -91,6 +84,5 @@ ending_of_run run.OutOfMemory = OutOfMemory
 ending_of_run (run.UnknownStart name) = UnknownStart name
 ending_of_run run.WrongBody = WrongBody
 ending_of_run run.TooManyTables = TreeRefused fault.TooManyTables
-ending_of_run run.NoBody = TreeRefused fault.TooManyTables
 ending_of_run run.Mismatch = CloseMismatch
-ending_of_run run.Missing = CloseMissing
+ending_of_run run.Misplaced = CloseMissing

@@ -1,6 +1,10 @@
 //! `run`: a tree is run on threads, with worked jobs.
 
-ghost use Rattle.std.specs.Prelude.{ℕ, Bool, List, ◌≡◌, ◌≤◌, ◌||◌, [], Some, false, IfOk};
+ghost use Rattle.std.specs.Prelude.{ℕ, Bool, List, ◌≡◌, ◌≤◌, ◌||◌, [], Err, Ok, Some, false, length, IfErr, IfOk};
+ghost use Rattle.otp_file.specs.Files.{IsOfTree, IsToml, Says};
+ghost use Rattle.otp_file.specs.Trees.{tables_of};
+ghost use Rattle.otp_file.specs.declared.fault.TreeFault.TheVariants.{NotToml};
+ghost use Rattle.otp_spec.specs.declared.limits.TheConstants.{MAX_TABLES};
 ghost use Rattle.otp_ending.specs.Told.{IsTold, TellsFirst};
 ghost use Rattle.otp_running.specs.Running.{IsEndOfRun, IsSaid, IsTreeRun, ending_of_run};
 
@@ -31,6 +35,16 @@ pub struct Pool<'a, H, G, L> {
     pub watch: &'a L,
 }
 
+/// The tree that a file says, which has 64 supervisors at most.
+pub(crate) fn tree_of(alloc: Global, file: &[u8]) -> Result<TreeSpec, TreeFault>
+    ensures tree { IfOk result (λ tree. Says file.now (Ok tree)) }
+    ensures few { IfOk result (λ tree. length (tables_of tree) ≤ MAX_TABLES) }
+    ensures first_fault { IfErr result (λ fault. IsOfTree fault → Says file.now (Err fault)) }
+    ensures not_toml { result ≡ Err NotToml → ¬ IsToml file.now }
+{
+    read_tree(alloc, file)
+}
+
 /// Reads the tree of a file, runs it with worked jobs, and writes the report, with the counts where the settings say so. What
 /// is told besides changes nothing of the output.
 pub fn run_file<'a, H, G, L, W, E>(
@@ -54,7 +68,7 @@ where
     ensures first { TellsFirst (shows.is_drawn || shows.is_why) result (E.contents errors.old) (E.contents errors.new) (E.failures errors.old) (E.failures errors.new) }
     ensures kept { E.failures errors.old ≤ E.failures errors.new }
 {
-    let tree = match read_tree(alloc, file) {
+    let tree = match tree_of(alloc, file) {
         Ok(tree) => tree,
         Err(fault) => {
             let ending = ProgramEnd::of_tree(fault);
@@ -247,11 +261,9 @@ fn end_of_run<'a>(fault: FileRunFault) -> ProgramEnd<'a>
         FileRunFault::OutOfMemory => ProgramEnd::OutOfMemory,
         FileRunFault::UnknownStart(name) => ProgramEnd::UnknownStart(name),
         FileRunFault::WrongBody => ProgramEnd::WrongBody,
-        // No tree that a file says comes to these two.
-        FileRunFault::TooManyTables | FileRunFault::NoBody => {
-            ProgramEnd::TreeRefused(TreeFault::TooManyTables)
-        }
+        // No tree that a file says comes to this.
+        FileRunFault::TooManyTables => ProgramEnd::TreeRefused(TreeFault::TooManyTables),
         FileRunFault::Mismatch => ProgramEnd::CloseMismatch,
-        FileRunFault::Missing => ProgramEnd::CloseMissing,
+        FileRunFault::Misplaced => ProgramEnd::CloseMissing,
     }
 }

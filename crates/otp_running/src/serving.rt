@@ -4,16 +4,16 @@ ghost use Rattle.std.specs.Prelude.{◌≡◌, ◌≤◌, ◌||◌, ◌++◌, So
 ghost use Rattle.std.specs.Option.{option_map};
 ghost use Rattle.otp_ending.specs.Told.{TellsFirst};
 ghost use Rattle.otp_file.specs.Trees.{tables_of};
-ghost use Rattle.otp_jobs.specs.Plans.{plan_fault};
-ghost use Rattle.otp_jobs.specs.Runs.{IsOfRun, run_fault};
+ghost use Rattle.otp_jobs.specs.Plans.{plan_fault, supervisors_of};
+ghost use Rattle.otp_jobs.specs.Runs.{IsOfRun, IsTooManyOnly, run_fault};
 ghost use Rattle.otp_running.specs.Running.{IsTreeServed};
 ghost use Rattle.otp_serve.specs.Serves.{served_text};
-ghost use Rattle.otp_close.specs.Closes.{IsReportOf};
+ghost use Rattle.otp_close.specs.Closes.{HaveBegun, IsReportOf};
 
-use crate::running::{Pool, ending_of_live, explain, refuse_run, remarks_on, say};
+use crate::running::{Pool, ending_of_live, explain, refuse_run, remarks_on, say, tree_of};
 use crate::watching::AtPaths;
 use otp_ending::ProgramEnd;
-use otp_file::{TreeSpec, read_tree};
+use otp_file::TreeSpec;
 use otp_jobs::{FileRunFault, Settings};
 use otp_live::{Span, Unwatched, Watch};
 use otp_outcome::Limit;
@@ -47,9 +47,11 @@ where
     H: Threads + Wait + Clock + Sync,
     L: Watch + Sync,
     ensures served { IfOk result (IsReportOf (length (tables_of tree))) }
+    ensures plans { IfOk result (λ report. HaveBegun (supervisors_of (tables_of tree)) report.tables.items) }
     ensures report { IfOk result (λ report. out.new.items ≡ out.old.items ++ served_text report) }
     ensures runnable { OnOk result (plan_fault (tables_of tree) ≡ None) }
     ensures fault { IfErr result (λ why. IsOfRun why → option_map run_fault (plan_fault (tables_of tree)) ≡ Some why) }
+    ensures too_many { IfErr result (IsTooManyOnly (length (tables_of tree))) }
 {
     let span = span_of(serving);
     if !serving.is_logged {
@@ -92,7 +94,7 @@ where
     ensures first { TellsFirst (shows.is_drawn || shows.is_why) result (E.contents errors.old) (E.contents errors.new) (E.failures errors.old) (E.failures errors.new) }
     ensures kept { E.failures errors.old ≤ E.failures errors.new }
 {
-    let tree = match read_tree(alloc, file) {
+    let tree = match tree_of(alloc, file) {
         Ok(tree) => tree,
         Err(fault) => {
             let ending = ProgramEnd::of_tree(fault);

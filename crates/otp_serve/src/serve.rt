@@ -1,19 +1,20 @@
 //! A tree of worked jobs is served for a time.
-ghost use Rattle.std.specs.Prelude.{◌≡◌, ◌<◌, ◌≤◌, ◌++◌, Some, None, IfErr, IfOk, OnOk, length, map};
+ghost use Rattle.std.specs.Prelude.{ℕ, ◌≡◌, ◌<◌, ◌≤◌, ◌++◌, Some, None, IfErr, IfOk, OnOk, length, map};
 ghost use Rattle.std.specs.Option.{option_map};
 ghost use Rattle.otp_file.specs.Trees.{tables_of};
-ghost use Rattle.otp_jobs.specs.Plans.{plan_fault};
-ghost use Rattle.otp_jobs.specs.Runs.{IsNotPlanned, IsOfRun, line_of, run_fault, unrun_fault};
+ghost use Rattle.otp_jobs.specs.Plans.{plan_fault, supervisors_of};
+ghost use Rattle.otp_jobs.specs.Runs.{IsOfRun, IsTooManyOnly, line_of, run_fault};
+ghost use Rattle.otp_open.specs.Plans.{HaveBodies, plans_of};
 ghost use Rattle.otp_run.specs.Rule.{all_parts};
 ghost use Rattle.otp_serve.specs.Serves.{served_text};
-ghost use Rattle.otp_close.specs.Closes.{IsReportOf};
+ghost use Rattle.otp_close.specs.Closes.{HaveBegun, IsReportOf};
 
 use crate::patient::PatientJob;
 use crate::plans::{PatientPlan, patient_plans};
 use otp_file::TreeSpec;
-use otp_jobs::{Calm, FileRunFault, Settings, TableLine, plan_tree, write_report};
+use otp_jobs::{Calm, FileRunFault, Settings, TableLine, fault_of, plan_tree, write_report};
 use otp_live::{Span, Watch, run_for};
-use otp_tree::{CloseFault, Report, RunFault, TableReport};
+use otp_tree::{Report, TableReport};
 use std::alloc::{AllocError, Global};
 use std::sync::Wait;
 use std::thread::Threads;
@@ -22,27 +23,15 @@ use std::time::Clock;
 /// What came of a tree of worked jobs that waited where they had nothing to do.
 pub type PatientReport = Report<PatientJob, Calm>;
 
-/// Why a tree was not opened or not closed.
-fn fault_of(why: RunFault<PatientJob, Calm>) -> FileRunFault
-    ensures kind { IsNotPlanned result }
-    ensures fault { result ≡ unrun_fault why }
-{
-    match why {
-        RunFault::Open(fault) => FileRunFault::from(fault),
-        RunFault::Close(CloseFault::OutOfMemory(())) => FileRunFault::OutOfMemory,
-        RunFault::Close(CloseFault::Missing(()) | CloseFault::Misplaced((), _)) => {
-            FileRunFault::Missing
-        }
-        RunFault::Close(CloseFault::Mismatch(..)) => FileRunFault::Mismatch,
-    }
-}
-
 /// The plans of a tree, whose jobs wait.
 fn plan_patiently(alloc: Global, tree: TreeSpec) -> Result<Vec<PatientPlan>, FileRunFault>
+    ensures supervisors { IfOk result (λ plans. (number : ℕ) → plans_of plans.items number ≡ supervisors_of (tables_of tree) number) }
+    ensures bodies { IfOk result (λ plans. HaveBodies plans.items) }
     ensures count { IfOk result (λ plans. length plans.items ≡ length (tables_of tree)) }
     ensures few { IfOk result (λ plans. length plans.items ≤ 64) }
     ensures runnable { OnOk result (plan_fault (tables_of tree) ≡ None) }
     ensures fault { IfErr result (λ why. IsOfRun why → option_map run_fault (plan_fault (tables_of tree)) ≡ Some why) }
+    ensures too_many { IfErr result (IsTooManyOnly (length (tables_of tree))) }
 {
     let plans = plan_tree(alloc, tree)?;
     match patient_plans(alloc, plans) {
@@ -95,9 +84,12 @@ where
     R: Threads + Wait + Clock + Sync,
     W: Watch + Sync,
     ensures served { IfOk result (IsReportOf (length (tables_of tree))) }
+    // Each core began with the flags and the specifications of the table with its number, never opened.
+    ensures plans { IfOk result (λ report. HaveBegun (supervisors_of (tables_of tree)) report.tables.items) }
     ensures report { IfOk result (λ report. out.new.items ≡ out.old.items ++ served_text report) }
     ensures runnable { OnOk result (plan_fault (tables_of tree) ≡ None) }
     ensures fault { IfErr result (λ why. IsOfRun why → option_map run_fault (plan_fault (tables_of tree)) ≡ Some why) }
+    ensures too_many { IfErr result (IsTooManyOnly (length (tables_of tree))) }
 {
     let plans = plan_patiently(alloc, tree)?;
     let report = match run_for(rt, alloc, plans, settings.schedulers(), span, watch) {

@@ -1,7 +1,8 @@
 //! A supervisor's core that is played: lines are turned into events, and orders into text.
 
 ghost use Rattle.std.specs.Prelude.{ℕ, [], ◌≡◌, ◌+◌, ◌<◌, ◌≤◌, ◌++◌, None, Some, OnOk, OnErr, IfOk, IfSome, is_some, option_map};
-ghost use Rattle.otp_text.specs.Lines.{IsTimely};
+ghost use Rattle.otp_text.specs.Lines.{IsTimely, line_of};
+ghost use Rattle.otp_text.specs.declared.line.Line.TheVariants as said;
 ghost use Rattle.std.specs.List.{flat_map};
 ghost use Rattle.otp_core.specs.View.{state_of, stored_state};
 ghost use Rattle.otp_rules.specs.Needs.{needs_number};
@@ -14,9 +15,10 @@ ghost use Rattle.otp_sim.specs.declared.driven.TheConstants.{LINE_LIMIT};
 use crate::driven::Stop;
 use crate::room::make_room;
 use otp_core::{Core, Counter, ReplyAnswer};
+use otp_reason::Note;
 use otp_rules::{Effect, Item, Kind, Reply};
 use otp_spec::SupSpec;
-use otp_text::{Line, Printer, read_line};
+use otp_text::{Line, Printer, read_line, read_note};
 use std::alloc::{AllocError, Global};
 use std::marker::Model;
 
@@ -106,13 +108,13 @@ impl Player {
             lines: 0,
             end: None,
         };
-        player.happen(Kind::Opened(0), out)?;
+        player.happen(&Kind::Opened(0), out)?;
         Ok(player)
     }
 
     /// Something happens now.
-    fn happen(&mut self, kind: Kind, out: &mut Vec<u8>) -> Result<(), AllocError>
-        ensures ok { OnOk result (with_text out.new.items self.new ≡ happen kind (with_text out.old.items self.old)) }
+    fn happen(&mut self, kind: &Kind, out: &mut Vec<u8>) -> Result<(), AllocError>
+        ensures ok { OnOk result (with_text out.new.items self.new ≡ happen kind.now (with_text out.old.items self.old)) }
         ensures kept { Begins out.old.items out.new.items }
         ensures lines { self.new.lines ≡ self.old.lines }
     {
@@ -156,8 +158,18 @@ impl Player {
         let Some(kind) = self.next_kind() else {
             return Ok(false);
         };
-        self.happen(kind, out)?;
+        self.happen(&kind, out)?;
         Ok(true)
+    }
+
+    /// What a process tells happens.
+    #[tactic(auto, unfolding(crate::specs::Sim::take_read))]
+    fn take_note(&mut self, note: Note, out: &mut Vec<u8>) -> Result<(), AllocError>
+        ensures ok { OnOk result (with_text out.new.items self.new ≡ take_read (said.Note note) (with_text out.old.items self.old)) }
+        ensures kept { Begins out.old.items out.new.items }
+        ensures lines { self.new.lines ≡ self.old.lines }
+    {
+        self.happen(&Kind::Took(Item::Note(note)), out)
     }
 
     /// What a line does by itself.
@@ -175,18 +187,18 @@ impl Player {
             Line::At(reading) => {
                 self.reading = reading;
                 if self.core.is_due(reading) {
-                    return self.happen(Kind::Ticked, out);
+                    return self.happen(&Kind::Ticked, out);
                 }
                 Ok(())
             }
-            Line::Note(note) => self.happen(Kind::Took(Item::Note(note)), out),
+            Line::Note(note) => self.take_note(note, out),
             Line::Stop => {
                 self.is_stopping = true;
                 Ok(())
             }
             Line::Call(call) => {
                 self.calls += 1;
-                self.happen(Kind::Took(Item::Call(self.calls, call)), out)
+                self.happen(&Kind::Took(Item::Call(self.calls, call)), out)
             }
         }
     }
@@ -217,7 +229,7 @@ impl Player {
     /// # Errors
     ///
     /// Where memory is refused. Then part of the text may have been appended, and the player is not used again.
-    #[tactic(auto, unfolding(crate::specs::Sim::begin_line))]
+    #[tactic(auto, unfolding(crate::specs::Sim::begin_line, crate::specs::Sim::begin_form))]
     pub(crate) fn play_line(&mut self, line: &[u8], out: &mut Vec<u8>) -> Result<(), AllocError>
         requires { self.old.lines + 1 < LINE_LIMIT }
         ensures ok { OnOk result (with_text out.new.items self.new ≡ begin_line line.now (with_text out.old.items self.old)) }
@@ -228,6 +240,22 @@ impl Player {
             return Ok(());
         }
         self.lines += 1;
+        match read_note(line) {
+            Some(note) => self.take_note(note, out),
+            None => self.play_other(line, out),
+        }
+    }
+
+    /// What a line does by itself that is no note, or has no form. It stands apart from the notes, which are most lines:
+    /// what any line may say is several times as large.
+    #[inline(never)]
+    fn play_other(&mut self, line: &[u8], out: &mut Vec<u8>) -> Result<(), AllocError>
+        requires calls { self.old.calls < self.old.lines }
+        requires lines { self.old.lines < LINE_LIMIT }
+        ensures ok { OnOk result (with_text out.new.items self.new ≡ begin_form (line_of line.now) (with_text out.old.items self.old)) }
+        ensures kept { Begins out.old.items out.new.items }
+        ensures lines { self.new.lines ≡ self.old.lines }
+    {
         self.begin_form(read_line(line), out)
     }
 

@@ -30,6 +30,10 @@ default_spec id start = record {
   modules = One start;
 }
 
+-- the same of a child of this type, with the default of its type
+abbrev pub default_spec_of : ChildType → Name → Name → ChildSpec
+default_spec_of kind id start = record (default_spec id start) { shutdown = default_shutdown kind; kind = kind }
+
 -- the name is one that a specification may have (own)
 abbrev pub is_lawful : Name → Bool
 is_lawful name = is_lawful_name (name_bytes name)

@@ -1,5 +1,5 @@
-ghost use Rattle.std.specs.Prelude.{◌≡◌, IfSome, Some, option_copied};
-ghost use Rattle.otp_spec.specs.Children.{default_shutdown, default_spec, are_lawful_modules};
+ghost use Rattle.std.specs.Prelude.{◌≡◌, Contains, IfSome, Some, option_copied};
+ghost use Rattle.otp_spec.specs.Children.{default_shutdown, default_spec, default_spec_of, are_lawful_modules};
 ghost use Rattle.otp_spec.specs.Lawful.{is_permanent};
 ghost use Rattle.otp_spec.specs.Words.{child_type_of, modules_of, modules_word, restart_of, restart_word, shutdown_of, shutdown_word, type_word};
 
@@ -19,6 +19,13 @@ pub enum Restart {
 }
 
 impl Restart {
+    /// All restart types.
+    pub fn all() -> [Self; 3]
+        ensures { (each : Restart) → Contains result each }
+    {
+        [Restart::Permanent, Restart::Transient, Restart::Temporary]
+    }
+
     /// Its word, as it is printed and read.
     #[tactic(auto, unfolding(crate::specs::Words::restart_word, crate::specs::Words::restart_of))]
     pub fn word(self) -> &'static str
@@ -117,6 +124,13 @@ pub enum ChildType {
 }
 
 impl ChildType {
+    /// All types of a child.
+    pub fn all() -> [Self; 2]
+        ensures { (each : ChildType) → Contains result each }
+    {
+        [ChildType::Worker, ChildType::Supervisor]
+    }
+
     /// Its word, as it is printed and read.
     #[tactic(auto, unfolding(crate::specs::Words::type_word, crate::specs::Words::child_type_of))]
     pub fn word(self) -> &'static str
@@ -241,7 +255,8 @@ impl Modules {
 
 impl ChildSpec {
     /// A specification with the manual's default for every key but these two: a permanent worker that is not
-    /// significant, has 5000 milliseconds to shut down, and is of the one module of its start function.
+    /// significant, has 5000 milliseconds to shut down, and is of the one module of its start function. For a child that is a
+    /// supervisor there is [`ChildSpec::of`], which gives it the default of its type.
     pub fn new(id: Name, start: Name) -> Self
         ensures { result ≡ default_spec id start }
     {
@@ -253,6 +268,18 @@ impl ChildSpec {
             shutdown: Shutdown::default_of(ChildType::Worker),
             kind: ChildType::Worker,
             modules: Modules::One(start),
+        }
+    }
+
+    /// The same for a child of this type: a supervisor has as much time to shut down as it wants (Supervisor Behaviour,
+    /// "Child Specification", shutdown).
+    pub fn of(kind: ChildType, id: Name, start: Name) -> Self
+        ensures { result ≡ default_spec_of kind id start }
+    {
+        ChildSpec {
+            shutdown: Shutdown::default_of(kind),
+            kind,
+            ..ChildSpec::new(id, start)
         }
     }
 }

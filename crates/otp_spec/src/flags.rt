@@ -1,4 +1,4 @@
-ghost use Rattle.std.specs.Prelude.{◌≡◌, Some};
+ghost use Rattle.std.specs.Prelude.{◌≡◌, Contains, Some};
 ghost use Rattle.otp_spec.specs.Flags.{default_flags, flags_fault, is_simple};
 ghost use Rattle.otp_spec.specs.Faults.{answer_of};
 ghost use Rattle.otp_spec.specs.Words.{auto_shutdown_of, auto_shutdown_word, strategy_of, strategy_word};
@@ -21,6 +21,18 @@ pub enum Strategy {
 }
 
 impl Strategy {
+    /// All strategies, in the manual's order.
+    pub fn all() -> [Self; 4]
+        ensures { (each : Strategy) → Contains result each }
+    {
+        [
+            Strategy::OneForOne,
+            Strategy::OneForAll,
+            Strategy::RestForOne,
+            Strategy::SimpleOneForOne,
+        ]
+    }
+
     /// Its word, as it is printed and read.
     #[tactic(auto, unfolding(crate::specs::Words::strategy_word, crate::specs::Words::strategy_of))]
     pub fn word(self) -> &'static str
@@ -73,6 +85,17 @@ pub enum AutoShutdown {
 }
 
 impl AutoShutdown {
+    /// All values of the flag, in the manual's order.
+    pub fn all() -> [Self; 3]
+        ensures { (each : AutoShutdown) → Contains result each }
+    {
+        [
+            AutoShutdown::Never,
+            AutoShutdown::AnySignificant,
+            AutoShutdown::AllSignificant,
+        ]
+    }
+
     /// Its word, as it is printed and read.
     #[tactic(auto, unfolding(crate::specs::Words::auto_shutdown_word, crate::specs::Words::auto_shutdown_of))]
     pub fn word(self) -> &'static str

@@ -67,7 +67,7 @@ impl Answers {
         }
     }
 
-    /// Takes the memory of the next `n` answers.
+    /// Takes the memory of the next `n` answers. Where the lists have grown there is room for more.
     pub fn reserve(&mut self, n: usize) -> Result<(), AllocError>
         ensures answers { self.new.answers ≡ self.old.answers }
         ensures list { self.new.last_list ≡ self.old.last_list }
@@ -75,8 +75,17 @@ impl Answers {
     {
         self.told.reserve(n)?;
         self.replies.reserve(n)?;
-        self.room = self.room.max(n);
+        let told = self.told.capacity() - self.told.len();
+        let replies = self.replies.capacity() - self.replies.len();
+        self.room = told.min(replies);
         Ok(())
+    }
+
+    /// How many more answers the memory is known to hold.
+    pub fn room(&self) -> usize
+        ensures { result ≡ self.now.room }
+    {
+        self.room
     }
 
     /// For how many more answers there is memory: at least for those that were reserved.
@@ -259,11 +268,17 @@ fn find_told(told: &[Answer], is_rising: bool, call: u64) -> Option<usize>
     ensures some { IfSome result (λ place. (replies : List Reply) → reply_of call (map (answer_in replies) told.now) ≡ Some (get_or replies place reply.Ok)) }
     ensures inside { IfSome result (λ place. (n : ℕ) → All (λ t. t.place < n) told.now → place < n) }
 {
-    if is_rising {
+    // The answer that was given last is the one that is mostly asked for.
+    if is_rising && !is_last(told, call) {
         find_rising(told, call)
     } else {
         find_last(told, call)
     }
+}
+
+/// Whether this call was answered last.
+fn is_last(told: &[Answer], call: u64) -> bool {
+    !told.is_empty() && told[told.len() - 1].call == call
 }
 
 /// The same, of calls whose numbers rise.

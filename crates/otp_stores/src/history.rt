@@ -132,13 +132,19 @@ impl History {
         ensures ok { OnOk result (n ≤ self.new.room) }
         ensures err { OnErr result (self.new ≡ self.old) }
     {
+        if n <= self.room {
+            return Ok(());
+        }
         if self.terms.len().max(self.calls.len()).saturating_add(n) > MAX_PLACES {
             return Err(AllocError);
         }
         self.events.reserve(n)?;
         self.terms.reserve(n)?;
         self.calls.reserve(n)?;
-        self.room = self.room.max(n);
+        let events = self.events.capacity() - self.events.len();
+        let terms = self.terms.capacity().min(MAX_PLACES) - self.terms.len();
+        let calls = self.calls.capacity().min(MAX_PLACES) - self.calls.len();
+        self.room = events.min(terms).min(calls);
         Ok(())
     }
 

@@ -92,8 +92,17 @@ impl Waits {
     {
         self.items.reserve(n)?;
         self.calls.reserve(n)?;
-        self.room = self.room.max(n);
+        let items = self.items.capacity().saturating_sub(self.items.len());
+        let calls = self.calls.capacity().saturating_sub(self.calls.len());
+        self.room = items.min(calls);
         Ok(())
+    }
+
+    /// How many more items the memory is known to hold, whatever they are.
+    pub fn room(&self) -> usize
+        ensures { result ≡ self.now.room }
+    {
+        self.room
     }
 
     /// The item waits last.

@@ -1,9 +1,10 @@
 // A supervisor's table without its lock, driven by hand: a turn at a time, and an order at a time, over a port in memory.
 ghost use Rattle.std.specs.Prelude.{◌≡◌, ◌≤◌, ◌<◌, ◌^◌};
 
-use crate::fixtures::{Post, hand_in_all, has_told_end, same, seat_table};
+use crate::fixtures::{Post, got, hand_in_all, has_told_end, same, seat_table};
 use crate::script::{Known, Stand, Step, known_of};
 use crate::shut::Shut;
+use otp_counts::CountsPass;
 use otp_inbox::{Inbox, Sender, UnnamedInbox};
 use otp_reason::Note;
 use otp_signals::{OpenWords, Signal, Viewer, Words};
@@ -87,6 +88,11 @@ impl<N: SupNaming> Alone<N> {
             .flush_one(&self.words, &self.inbox, &mut self.sender, &mut self.port)
     }
 
+    // A pass to read the counts of the table.
+    pub(crate) fn pass<R: Abort>(&mut self, rt: &R) -> CountsPass {
+        got(rt, "memory was refused", self.table.pass())
+    }
+
     // The table alone.
     pub(crate) fn into_table(self) -> Table<N, u64> {
         let Alone {
@@ -149,7 +155,13 @@ impl<N: SupNaming> Stand for Alone<N> {
     }
 
     fn put<R: Wait + Abort>(&mut self, _rt: &R) -> Option<(u64, usize, u64)> {
-        let NewProcess { number, slot, body } = self.port.processes.pop()?;
+        let NewProcess {
+            number,
+            slot,
+            body,
+            id: _,
+            again: _,
+        } = self.port.processes.pop()?;
         Some((number, slot, body?))
     }
 

@@ -169,7 +169,13 @@ impl<N: SupNaming> Stand for Driven<N> {
     fn put<R: Wait + Abort>(&mut self, rt: &R) -> Option<(u64, usize, u64)> {
         let is_put = !self.port.processes.is_empty();
         self.send_orders(rt, is_put);
-        let NewProcess { number, slot, body } = self.port.processes.pop()?;
+        let NewProcess {
+            number,
+            slot,
+            body,
+            id: _,
+            again: _,
+        } = self.port.processes.pop()?;
         assert!(rt; self.port.processes.is_empty());
         Some((number, slot, body?))
     }

@@ -40,7 +40,7 @@ impl Port<u64> for Shut {
     ghost beside = { λ _. [] };
 
     fn put(&mut self, process: NewProcess<u64>) -> Result<(), NewProcess<u64>>
-        ensures took { OnOk result (launched_all self.new.processes.items ≡ launched_all self.old.processes.items ++ launched process.number process.slot (is_some process.body) ∷ []) }
+        ensures took { OnOk result (launched_all self.new.processes.items ≡ launched_all self.old.processes.items ++ launched process.number process.slot process.id process.again (is_some process.body) ∷ []) }
         ensures kept { OnErr result (launched_all self.new.processes.items ≡ launched_all self.old.processes.items) }
         ensures refused { OnErr result (self.old.refusals.count < self.new.refusals.count) }
         ensures counted { OnOk result (self.new.refusals.count ≡ self.old.refusals.count) }

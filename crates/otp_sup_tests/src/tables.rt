@@ -1,9 +1,21 @@
 // What lies under a supervisor's lock, without the lock: a turn at a time, and an order at a time, over a port in memory.
-use crate::fixtures::{OWN, of_one_child};
-use crate::script::{Known, Sent, Step, plays};
+ghost use Rattle.std.specs.Prelude.{◌≡◌};
+
+use crate::alone::make_table;
+use crate::fixtures::{OWN, Post, got, of_one_child, open_parts, same};
+use crate::script::{Known, Sent, Step, play, plays};
+use otp_counts::CountsPass;
+use otp_inbox::{InboxNaming, UnnamedInbox};
 use otp_reason::{Note, Reason};
-use otp_signals::Signal;
-use otp_sup::{TurnAnswer, TurnFault};
+use otp_signals::{OpenWords, Signal, WordsNaming};
+use otp_spec::SupSpec;
+use otp_sup::{Message, PlanNaming, TurnAnswer, TurnFault};
+use std::alloc::Global;
+use std::marker::Brand;
+use std::process::Abort;
+use std::sync::Wait;
+use std::thread;
+use std::thread::Threads;
 
 // Opened, restarted, stopped, killed and ended: after each turn its orders are sent, and counted.
 const BY_ORDERS: [Step; 32] = [
@@ -90,4 +102,48 @@ const REFUSED_ORDER: [Step; 12] = [
 fn refused_order(rt: HostRuntime) {
     let supervisor = of_one_child(&rt, rt.alloc());
     plays(&rt, rt.alloc(), supervisor, &[OWN], &REFUSED_ORDER, 2);
+}
+
+// How many children have a process, as a pass reads it in some thread.
+fn active_in(mut pass: CountsPass) -> u64 {
+    let active = pass.read().active;
+    drop(pass);
+    active
+}
+
+fn reads(rt: &impl Abort, pass: &mut CountsPass, active: u64) {
+    same(rt, "the children that are up", pass.read().active, active);
+}
+
+// A pass reads after the opening, and again after the child is up. One that was split off then reads in another thread what was
+// published before it was made. Whoever calls this picks the names, which the language allows for the traits alone that have them.
+fn read_beside<N: WordsNaming + InboxNaming + PlanNaming, R: Threads + Wait + Abort>(
+    rt: &R,
+    alloc: Global,
+    words: OpenWords,
+    inbox: UnnamedInbox<Message, Post>,
+    supervisor: SupSpec,
+)
+    requires words { words.words ≡ N.words }
+    requires slots { words.slots ≡ 256 }
+    requires inbox { inbox ≡ N.inbox 0 }
+    requires plan { supervisor ≡ N.plan 0 }
+{
+    let mut one = make_table::<N, _>(rt, alloc, words, inbox, supervisor, &[OWN]);
+    play(rt, alloc, &mut one, &[Step::Opens(1)]);
+    let mut pass = one.pass(rt);
+    reads(rt, &mut pass, 0);
+    play(rt, alloc, &mut one, &[Step::Takes(Sent::Up(1), 1)]);
+    drop(one);
+    reads(rt, &mut pass, 1);
+    let other = got(rt, "memory was refused", pass.split());
+    let active = thread::join(rt, move || active_in(pass), move || active_in(other));
+    same(rt, "what two threads read", active, (1, 1));
+}
+
+#[test]
+fn counts_are_read_by_two_threads(rt: HostRuntime) {
+    let (words, inbox) = open_parts(&rt, rt.alloc());
+    let supervisor = of_one_child(&rt, rt.alloc());
+    read_beside::<Brand, _>(&rt, rt.alloc(), words, inbox, supervisor);
 }

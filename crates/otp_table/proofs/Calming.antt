@@ -1,10 +1,13 @@
 -- Rows whose waiting retries are given up, one at a time.
-use Rattle.std.proofs.Common.{◌≡◌, ℕ, ◌+◌, ◌-◌, ◌<◌, List, [], ◌∷◌, ◌++◌, ◌∙◌, ap, arith, append_assoc, drop, drop-set-lt, get_or, length, set, slice_range, suc, sym, take}
+use Rattle.std.proofs.Common.{◌≡◌, ℕ, ◌+◌, ◌-◌, ◌<◌, List, [], ◌∷◌, ◌++◌, ◌∙◌, ap, arith, append_assoc, drop, drop-set-lt, false, get_or, length, refl, set, slice_range, suc, sym, take}
 use Rattle.std.specs.Prelude.{slice_get, Some}
-use Rattle.std.proofs.lemmas.List.{drop_more, take_more_set}
+use Rattle.std.proofs.lemmas.Bool.{false≢true}
+use Rattle.std.proofs.lemmas.List.{drop_more, set-get_or, take_more_set}
 use Rattle.std.proofs.lemmas.Option.{get_or_from_slice_get, slice_get_within}
 use Rattle.otp_table.specs.declared.row.Row.{Row}
-use Rattle.otp_table.specs.Rows.{calm_rows, calmed, with_state}
+use Rattle.otp_table.specs.declared.row.RowState.{RowState}
+use Rattle.otp_table.specs.declared.row.RowState.TheVariants.{Undefined, Starting, Up, Asked, Killed, Restarting}
+use Rattle.otp_table.specs.Rows.{calm_rows, calmed, is_restarting, with_state}
 
 abbrev calm_one : Row → Row
 calm_one row = with_state (calmed row.state) row
@@ -34,3 +37,17 @@ calm_further rows after p to row lt within at is =
 -- the row at a place
 pub got : (rows : List Row) (p : ℕ) (row : Row) → slice_get rows p ≡ Some row → (p < length rows) × (get_or rows p row ≡ row)
 got rows p row e = (slice_get_within rows p row e, get_or_from_slice_get rows p row row e)
+
+calmed_same : (s : RowState) → is_restarting s ≡ false → calmed s ≡ s
+calmed_same Undefined no = refl
+calmed_same (Starting p k) no = refl
+calmed_same (Up p) no = refl
+calmed_same (Asked p t) no = refl
+calmed_same (Killed p) no = refl
+calmed_same (Restarting k) no = absurd (false≢true (sym no))
+
+-- a row that awaits no retry is calm already
+pub calm_already : (rows : List Row) (p : ℕ) (row : Row) → get_or rows p row ≡ row → is_restarting row.state ≡ false → rows ≡ set rows p (calm_one row)
+calm_already rows p row at no =
+    sym (set-get_or rows p row)
+    ∙ ap (λ (r : Row). set rows p r) (at ∙ ap (λ (s : RowState). with_state s row) (sym (calmed_same row.state no)))

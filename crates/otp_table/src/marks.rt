@@ -33,8 +33,28 @@ pub fn first_from(marks: &[Mark], key: u64) -> usize
     marks.partition_point(|mark| mark.key < key)
 }
 
-/// Where the mark with this key stands.
+/// Whether the last mark has this key.
+fn is_last(marks: &[Mark], key: u64) -> bool
+    ensures { IsTrue result → HasKey key (length marks.now - 1) marks.now }
+{
+    !marks.is_empty() && marks[marks.len() - 1].key == key
+}
+
+/// Where the mark with this key stands. That of the newest process is the last: a child that comes up, or ends in the reverse
+/// order of starts, is not searched for.
 fn index_of(marks: &[Mark], key: u64) -> Option<usize>
+    requires { Rises marks.now }
+    ensures { MatchOption result ((p : ℕ) → IsUnder key p marks.now → ⊥) (λ i. HasKey key i marks.now) }
+{
+    if is_last(marks, key) {
+        Some(marks.len() - 1)
+    } else {
+        search_index(marks, key)
+    }
+}
+
+/// The same, by halving.
+fn search_index(marks: &[Mark], key: u64) -> Option<usize>
     requires { Rises marks.now }
     ensures { MatchOption result ((p : ℕ) → IsUnder key p marks.now → ⊥) (λ i. HasKey key i marks.now) }
 {

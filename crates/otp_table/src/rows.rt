@@ -311,8 +311,10 @@ impl Rows {
         ensures room { self.new.room ≡ self.old.room }
         ensures found { (row : Row) × (slice_get self.old.rows place ≡ Some row) }
     {
-        let state = self.items[place].state.calmed();
-        self.set_state(place, state);
+        let state = self.items[place].state;
+        if state.is_restarting() {
+            self.set_state(place, state.calmed());
+        }
     }
 
     /// Takes the row out; those after it move up.

@@ -142,7 +142,7 @@ impl Driver {
         };
         assert!(rt; numbers.last < u64::MAX);
         let is_needed = self.core.needs_number(self.reading, &kind);
-        let number = self.core.step_with(self.reading, kind, &mut numbers);
+        let number = self.core.step_with(self.reading, &kind, &mut numbers);
         assert!(rt; number.is_some() == is_needed);
     }
 

@@ -128,6 +128,22 @@ call_of verb.Get words = option_map call.GetChildspec (one_name words)
 call_of verb.Which words = when (no_words words) call.WhichChildren
 call_of verb.Count words = when (no_words words) call.CountChildren
 
+-- the note of a verb and the words after it: what a process tells
+unfoldable pub note_with : Verb → List (List ℕ) → Option Note
+note_with verb.At words = None
+note_with verb.Up words = option_map note.Up (one_number words)
+note_with verb.Ignore words = option_map note.Ignored (one_number words)
+note_with verb.Fail words = option_map (λ both. note.Failed both.0 both.1) (number_and_reason words)
+note_with verb.Exit words = option_map (λ both. note.Exit both.0 both.1) (number_and_reason words)
+note_with verb.Stop words = None
+note_with verb.Start words = None
+note_with verb.Restart words = None
+note_with verb.Delete words = None
+note_with verb.Terminate words = None
+note_with verb.Get words = None
+note_with verb.Which words = None
+note_with verb.Count words = None
+
 -- the line of a verb and the words after it
 unfoldable pub line_with : Verb → List (List ℕ) → Option Line
 line_with verb.At words = option_map line.At (one_number words)
@@ -162,3 +178,12 @@ IsTimely (line.At reading) = reading ≤ MAX_READING
 IsTimely (line.Note _) = Unit {0}
 IsTimely line.Stop = Unit {0}
 IsTimely (line.Call _) = Unit {0}
+
+-- what a process tells, where that is what the line says
+abbrev pub note_of : Option Line → Option Note
+note_of None = None
+note_of (Some line.Empty) = None
+note_of (Some (line.At _)) = None
+note_of (Some (line.Note told)) = Some told
+note_of (Some line.Stop) = None
+note_of (Some (line.Call _)) = None

@@ -1,12 +1,18 @@
 //! Orders as lines.
 
-ghost use Rattle.std.specs.Prelude.{◌≡◌, ◌++◌, OnOk, OnErr, option_copied};
+ghost use Rattle.std.specs.Prelude.{◌≡◌, ◌++◌, Option, Some, OnOk, OnErr, OnSome, option_copied};
+ghost use Rattle.otp_rules.specs.declared.call.Reply.{Reply};
+ghost use Rattle.otp_rules.specs.declared.call.Reply.TheVariants as told;
+ghost use Rattle.otp_rules.specs.declared.event.Effect.TheVariants as order;
 ghost use Rattle.otp_text.specs.Effects.{order_line, reply_line, effect_line};
+ghost use Rattle.otp_text.specs.Values.{child_name_text};
 
+use crate::listed::Listed;
 use crate::reply::write_reply;
-use crate::value::{write_child_name, write_number, write_process, write_reason};
+use crate::short::ShortText;
+use crate::value::{write_byte, write_child_name, write_number, write_process, write_reason};
 use otp_reason::Name;
-use otp_rules::{Effect, Reply};
+use otp_rules::{ChildLine, Effect, Reply};
 use std::alloc::{AllocError, Global};
 
 /// Prints orders, each as one line.
@@ -14,6 +20,8 @@ use std::alloc::{AllocError, Global};
 pub struct Printer {
     // The line being made: it goes out whole or not at all.
     line: Vec<u8>,
+    // The list of children that was printed last.
+    listed: Listed,
 }
 
 impl Printer {
@@ -21,6 +29,7 @@ impl Printer {
     pub fn new(alloc: Global) -> Self {
         Printer {
             line: Vec::new(alloc),
+            listed: Listed::new(alloc),
         }
     }
 
@@ -39,9 +48,73 @@ impl Printer {
         ensures ok { OnOk result (out.new.items ≡ out.old.items ++ effect_line effect.now (option_copied reply.entry)) }
         ensures err { OnErr result (out.new.items ≡ out.old.items) }
     {
+        let mut short = ShortText::new();
+        if let Some(()) = add_effect(effect, &mut short) {
+            return out.extend_from_slice(short.as_bytes());
+        }
         self.line.clear();
-        write_effect(effect, reply, &mut self.line)?;
+        match (effect, reply) {
+            (Effect::Reply(call), Some(Reply::Which(children))) => {
+                write_list(*call, children.as_slice(), &mut self.listed, &mut self.line)?;
+            }
+            _ => write_effect(effect, reply, &mut self.line)?,
+        }
         out.extend_from_slice(self.line.as_slice())
+    }
+}
+
+/// Appends the line of the answer to a call that lists children.
+#[tactic(auto, unfolding(crate::specs::Effects::effect_line, crate::specs::Effects::reply_line, crate::specs::Replies::reply_text, crate::specs::Replies::which_text))]
+fn write_list(
+    call: u64,
+    children: &[ChildLine],
+    listed: &mut Listed,
+    out: &mut Vec<u8>,
+) -> Result<(), AllocError>
+    ensures { OnOk result (out.new.items ≡ out.old.items ++ effect_line (order.Reply call) (Some (told.Which children.now))) }
+{
+    listed.take(children)?;
+    out.extend_from_slice(b"reply ")?;
+    write_number(call, out)?;
+    write_byte(b' ', out)?;
+    out.extend_from_slice(b"which")?;
+    out.extend_from_slice(listed.text())?;
+    write_byte(b'\n', out)
+}
+
+/// Adds the line of what is asked of a child. Other orders are longer, or are rare: they aren't added.
+#[tactic(auto, unfolding(crate::specs::Effects::effect_line))]
+fn add_effect(effect: &Effect, text: &mut ShortText) -> Option<()>
+    ensures { (reply : Option Reply) → OnSome result (text.new ≡ text.old ++ effect_line effect.now reply) }
+{
+    match effect {
+        Effect::Start(name, number) => add_order(b"start ", name, *number, text),
+        Effect::Ask(name, number) => add_order(b"ask ", name, *number, text),
+        Effect::Kill(name, number) => add_order(b"kill ", name, *number, text),
+        Effect::Reply(_) | Effect::Ready | Effect::End(_) => None,
+    }
+}
+
+/// Adds the line of what is asked of a child.
+#[tactic(auto, unfolding(crate::specs::Effects::order_line))]
+fn add_order(word: &[u8], name: &Option<Name>, number: u64, text: &mut ShortText) -> Option<()>
+    ensures { OnSome result (text.new ≡ text.old ++ order_line word.now name.now number) }
+{
+    text.add(word)?;
+    add_child_name(name, text)?;
+    text.add(b" ")?;
+    text.add_process(number)?;
+    text.add(b"\n")
+}
+
+/// Adds a child's id, or `-` for a dynamic child.
+#[tactic(auto, unfolding(crate::specs::Values::child_name_text))]
+fn add_child_name(name: &Option<Name>, text: &mut ShortText) -> Option<()>
+    ensures { OnSome result (text.new ≡ text.old ++ child_name_text name.now) }
+{
+    match name {
+        None => text.add(b"-"),
+        Some(id) => text.add(id.as_bytes()),
     }
 }
 
@@ -59,7 +132,7 @@ fn write_effect(effect: &Effect, reply: Option<&Reply>, out: &mut Vec<u8>) -> Re
         Effect::End(end) => {
             out.extend_from_slice(b"end ")?;
             write_reason(&end.reason, out)?;
-            out.extend_from_slice(b"\n")
+            write_byte(b'\n', out)
         }
     }
 }
@@ -76,9 +149,9 @@ fn write_order(
 {
     out.extend_from_slice(word)?;
     write_child_name(name, out)?;
-    out.extend_from_slice(b" ")?;
+    write_byte(b' ', out)?;
     write_process(number, out)?;
-    out.extend_from_slice(b"\n")
+    write_byte(b'\n', out)
 }
 
 /// Appends the line of a call's answer, and nothing without the answer.
@@ -91,9 +164,9 @@ fn write_answered(call: u64, reply: Option<&Reply>, out: &mut Vec<u8>) -> Result
         Some(reply) => {
             out.extend_from_slice(b"reply ")?;
             write_number(call, out)?;
-            out.extend_from_slice(b" ")?;
+            write_byte(b' ', out)?;
             write_reply(reply, out)?;
-            out.extend_from_slice(b"\n")
+            write_byte(b'\n', out)
         }
     }
 }

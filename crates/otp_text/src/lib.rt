@@ -6,12 +6,14 @@
 pub mod effect;
 pub mod laws;
 pub mod line;
+mod listed;
 mod reply;
+mod short;
 mod value;
 mod verb;
 mod word;
 
 pub use effect::Printer;
-pub use line::{LONGEST_LINE, Line, read_line};
+pub use line::{LONGEST_LINE, Line, read_line, read_note};
 pub use value::{write_child_name, write_name, write_number, write_process, write_reason};
 pub use word::{read_name, read_number, read_reason};

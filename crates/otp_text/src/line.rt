@@ -1,10 +1,11 @@
 //! Lines as they are read.
 
-ghost use Rattle.std.specs.Prelude.{◌≡◌, ◌≤◌, IfSome, option_copied};
+ghost use Rattle.std.specs.Prelude.{◌≡◌, ◌≤◌, IfSome, Some, option_copied};
 ghost use Rattle.std.specs.Option.{option_map};
 ghost use Rattle.otp_spec.specs.declared.limits.TheConstants.{MAX_READING};
+ghost use Rattle.otp_text.specs.declared.line.Line.TheVariants as said;
 ghost use Rattle.otp_text.specs.Words.{words_of, words_left};
-ghost use Rattle.otp_text.specs.Lines.{number_in, one_number, one_name, number_and_reason, two_names, spec_named, spec_in, start_in, terminate_in, one_terminate, call_of, line_with, line_of_words, line_of, IsTimely};
+ghost use Rattle.otp_text.specs.Lines.{number_in, one_number, one_name, number_and_reason, two_names, spec_named, spec_in, start_in, terminate_in, one_terminate, call_of, note_of, note_with, line_with, line_of_words, line_of, IsTimely};
 
 use crate::verb::Verb;
 use crate::word::{
@@ -58,23 +59,52 @@ fn read_words(line: &[u8]) -> Option<Line>
     read_verb(verb, rest)
 }
 
+/// What a process tells by this line; `None` for any other line, and for one that has no form.
+///
+/// It is what [`read_line`] says, in a value a third as large: most lines are notes.
+#[tactic(auto, unfolding(crate::specs::Lines::line_of, crate::specs::Lines::line_of_words, crate::specs::Lines::line_with, crate::specs::Lines::note_with))]
+pub fn read_note(line: &[u8]) -> Option<Note>
+    ensures note { result ≡ note_of (line_of line.now) }
+    ensures line { IfSome result (λ note. line_of line.now ≡ Some (said.Note note)) }
+{
+    if line.len() > LONGEST_LINE {
+        return None;
+    }
+    let (word, rest) = cut(line);
+    let verb = Verb::of_word(word)?;
+    read_note_with(verb, rest)
+}
+
+/// The note of a verb and the words after it.
+#[tactic(auto, unfolding(crate::specs::Lines::note_with))]
+fn read_note_with(verb: Verb, rest: Option<&[u8]>) -> Option<Note>
+    ensures { result ≡ note_with verb (words_left (option_copied rest.entry)) }
+{
+    match verb {
+        Verb::Up => Some(Note::Up(read_one_number(rest)?)),
+        Verb::Ignore => Some(Note::Ignored(read_one_number(rest)?)),
+        Verb::Fail => {
+            let (number, reason) = read_number_and_reason(rest)?;
+            Some(Note::Failed(number, reason))
+        }
+        Verb::Exit => {
+            let (number, reason) = read_number_and_reason(rest)?;
+            Some(Note::Exit(number, reason))
+        }
+        _ => None,
+    }
+}
+
 /// The line of a verb and the words after it.
-#[tactic(auto, unfolding(crate::specs::Lines::line_with))]
+#[tactic(auto, unfolding(crate::specs::Lines::line_with, crate::specs::Lines::note_with))]
 fn read_verb(verb: Verb, rest: Option<&[u8]>) -> Option<Line>
     ensures line { result ≡ line_with verb (words_left (option_copied rest.entry)) }
     ensures time { IfSome result IsTimely }
 {
     match verb {
         Verb::At => Some(Line::At(read_one_number(rest)?)),
-        Verb::Up => Some(Line::Note(Note::Up(read_one_number(rest)?))),
-        Verb::Ignore => Some(Line::Note(Note::Ignored(read_one_number(rest)?))),
-        Verb::Fail => {
-            let (number, reason) = read_number_and_reason(rest)?;
-            Some(Line::Note(Note::Failed(number, reason)))
-        }
-        Verb::Exit => {
-            let (number, reason) = read_number_and_reason(rest)?;
-            Some(Line::Note(Note::Exit(number, reason)))
+        Verb::Up | Verb::Ignore | Verb::Fail | Verb::Exit => {
+            Some(Line::Note(read_note_with(verb, rest)?))
         }
         Verb::Stop if is_end(rest) => Some(Line::Stop),
         Verb::Stop => None,

@@ -5,7 +5,7 @@ ghost use Rattle.std.specs.List.{flat_map};
 ghost use Rattle.otp_text.specs.Replies.{fault_text, id_text, child_process_text, child_text, which_text, count_text, counts_text, spec_names_text, spec_restart_text, spec_shutdown_text, spec_text, reply_text};
 
 use crate::value::{
-    write_bool, write_modules, write_name, write_number, write_process, write_reason,
+    write_bool, write_byte, write_modules, write_name, write_number, write_process, write_reason,
     write_shutdown,
 };
 use otp_reason::Name;
@@ -74,7 +74,7 @@ fn write_which(children: &[ChildLine], out: &mut Vec<u8>) -> Result<(), AllocErr
 }
 
 /// Appends each child of which_children.
-fn write_children(children: &[ChildLine], out: &mut Vec<u8>) -> Result<(), AllocError>
+pub(crate) fn write_children(children: &[ChildLine], out: &mut Vec<u8>) -> Result<(), AllocError>
     ensures { OnOk result (out.new.items ≡ out.old.items ++ flat_map child_text children.now) }
 {
     for child in children {
@@ -88,13 +88,13 @@ fn write_children(children: &[ChildLine], out: &mut Vec<u8>) -> Result<(), Alloc
 fn write_child(child: &ChildLine, out: &mut Vec<u8>) -> Result<(), AllocError>
     ensures { OnOk result (out.new.items ≡ out.old.items ++ child_text child.now) }
 {
-    out.extend_from_slice(b" ")?;
+    write_byte(b' ', out)?;
     write_id(&child.id, out)?;
-    out.extend_from_slice(b",")?;
+    write_byte(b',', out)?;
     write_child_process(child.process, out)?;
-    out.extend_from_slice(b",")?;
+    write_byte(b',', out)?;
     out.extend_from_slice(child.kind.word().as_bytes())?;
-    out.extend_from_slice(b",")?;
+    write_byte(b',', out)?;
     write_modules(&child.modules, out)
 }
 

@@ -1,6 +1,6 @@
 //! Values as they are printed.
 
-ghost use Rattle.std.specs.Prelude.{◌≡◌, ◌++◌, [], OnOk, codes, decimal, option_copied, unwrap_or};
+ghost use Rattle.std.specs.Prelude.{◌≡◌, ◌++◌, ◌∷◌, [], OnOk, codes, decimal, option_copied, unwrap_or};
 ghost use Rattle.otp_reason.specs.Names.{name_bytes};
 ghost use Rattle.otp_text.specs.Values.{reason_text, process_text, child_name_text, shutdown_text, modules_text, bool_text};
 
@@ -8,6 +8,16 @@ use itoa::Buffer;
 use otp_reason::{Name, Reason};
 use otp_spec::{Modules, Shutdown};
 use std::alloc::AllocError;
+
+/// Appends a byte.
+pub(crate) fn write_byte(byte: u8, out: &mut Vec<u8>) -> Result<(), AllocError>
+    ensures { OnOk result (out.new.items ≡ out.old.items ++ byte ∷ []) }
+{
+    match out.push(byte) {
+        Ok(()) => Ok(()),
+        Err(_) => Err(AllocError),
+    }
+}
 
 /// Appends a number in decimal digits.
 pub fn write_number(number: u64, out: &mut Vec<u8>) -> Result<(), AllocError>
@@ -29,7 +39,7 @@ pub fn write_name(name: &Name, out: &mut Vec<u8>) -> Result<(), AllocError>
 pub fn write_process(number: u64, out: &mut Vec<u8>) -> Result<(), AllocError>
     ensures { OnOk result (out.new.items ≡ out.old.items ++ process_text number) }
 {
-    out.extend_from_slice(b"#")?;
+    write_byte(b'#', out)?;
     write_number(number, out)
 }
 
@@ -61,7 +71,7 @@ pub fn write_child_name(name: &Option<Name>, out: &mut Vec<u8>) -> Result<(), Al
     ensures { OnOk result (out.new.items ≡ out.old.items ++ child_name_text name.now) }
 {
     match name {
-        None => out.extend_from_slice(b"-"),
+        None => write_byte(b'-', out),
         Some(id) => write_name(id, out),
     }
 }
@@ -103,7 +113,7 @@ pub(crate) fn write_bool(value: bool, out: &mut Vec<u8>) -> Result<(), AllocErro
 fn write_next_module(name: &Name, out: &mut Vec<u8>) -> Result<(), AllocError>
     ensures { OnOk result (out.new.items ≡ out.old.items ++ codes "+" ++ name_bytes name.now) }
 {
-    out.extend_from_slice(b"+")?;
+    write_byte(b'+', out)?;
     write_name(name, out)
 }
 
@@ -114,7 +124,7 @@ pub(crate) fn write_modules(modules: &Modules, out: &mut Vec<u8>) -> Result<(), 
 {
     match modules {
         Modules::Dynamic => write_word(modules.word(), out),
-        Modules::None => out.extend_from_slice(b"-"),
+        Modules::None => write_byte(b'-', out),
         Modules::One(first) => write_name(first, out),
         Modules::Two(first, second) => {
             write_name(first, out)?;

@@ -123,6 +123,20 @@ pub fn read_name(word: &[u8]) -> Option<Name>
 pub fn read_reason(word: &[u8]) -> Option<Reason>
     ensures { result ≡ reason_in word.now }
 {
+    // An error is the most frequent reason with a term, and is found by its bytes.
+    if let [b'e', b'r', b'r', b'o', b'r', b':', term @ ..] = word
+        && let Some(text) = Text::new(term)
+    {
+        return Some(Reason::Error(text));
+    }
+    read_any_reason(word)
+}
+
+/// The same, by one comparison after another.
+#[tactic(auto, unfolding(crate::specs::Words::reason_in, crate::specs::Values::reason_text))]
+fn read_any_reason(word: &[u8]) -> Option<Reason>
+    ensures { result ≡ reason_in word.now }
+{
     if is_text(word, b"normal") {
         Some(Reason::Normal)
     } else if is_text(word, b"shutdown") {

@@ -1,6 +1,6 @@
 // Which plans come of a draft.
 use crate::fixtures::{got, same};
-use crate::shown::{Draft, add, dynamic, empty, has_plans, put};
+use crate::shown::{Draft, MEMORY, add, dynamic, empty, has_plans, put};
 use otp_draft::Child;
 use otp_spec::{ChildType, Restart, Shutdown};
 use std::alloc::Global;
@@ -24,6 +24,8 @@ const FROM_THREE: &str = "\
 6: y=w5 calls=^7
 7: any
 ";
+
+const PATHS: [&str; 5] = ["root", "east", "east/deep", "west", "west/calls"];
 
 pub(crate) fn deep(rt: &impl Abort, alloc: Global) -> Draft {
     let mut deep = empty(alloc);
@@ -72,6 +74,28 @@ fn are_planned(rt: &impl Abort, alloc: Global, first: usize, wanted: &str) {
 fn supervisors_stand_in_the_order_of_the_walk(rt: HostRuntime) {
     are_planned(&rt, rt.alloc(), 0, THREE_LEVELS);
     are_planned(&rt, rt.alloc(), 3, FROM_THREE);
+}
+
+// The paths of that tree's supervisors, in the order of the walk; and the number of each, by its path.
+#[test]
+fn supervisors_have_paths(rt: HostRuntime) {
+    let draft = three_levels(&rt, rt.alloc());
+    for (number, path) in PATHS.iter().enumerate() {
+        let found = got(&rt, MEMORY, draft.table_of(rt.alloc(), path));
+        same(&rt, path, found, Some(number));
+        assert!(rt; is_at(&rt, rt.alloc(), &draft, number, path));
+    }
+    let unknown = got(&rt, MEMORY, draft.table_of(rt.alloc(), "west/deep"));
+    same(&rt, "a path of no supervisor", unknown, None);
+    assert!(rt; !is_at(&rt, rt.alloc(), &draft, PATHS.len(), "root"));
+    drop(draft);
+}
+
+fn is_at(rt: &impl Abort, alloc: Global, draft: &Draft, number: usize, wanted: &str) -> bool {
+    match got(rt, MEMORY, draft.path_of(alloc, number)) {
+        Some(path) => path.as_bytes() == wanted.as_bytes(),
+        None => false,
+    }
 }
 
 #[test]

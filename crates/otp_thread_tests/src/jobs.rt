@@ -3,8 +3,10 @@ ghost use Rattle.std.specs.Prelude.{true};
 
 use crate::fixtures::{got, same};
 use crate::probes::{AnyBody, AnyProcess, Pipe, Probe, no_calls, worker_body};
-use otp_job::{After, Body, BoxedJob, Job, Process, ProcessPhase, TableNo, Told, Turn, one_turn};
-use otp_reason::{Note, Reason, Started};
+use otp_job::{
+    After, Body, BoxedJob, Job, Place, Process, ProcessPhase, TableNo, Ticket, Told, Turn, one_turn,
+};
+use otp_reason::{Name, Note, Reason, Started, Text};
 use otp_signals::Signal;
 use std::alloc::Global;
 use std::process::Abort;
@@ -152,6 +154,70 @@ fn a_process_that_waits_has_news_of_a_shutdown_once(rt: HostRuntime) {
     let process = waits(&rt, process, Signal::Shutdown);
     has_news(&rt, &process, false);
     drop(process);
+}
+
+// Fails to start, for an error of the name that it is told for its id; without one its start is ignored.
+#[derive(Drop)]
+struct Named;
+
+impl Job for Named {
+    ghost is_trapping = { λ _. false };
+
+    fn traps(&self) -> bool {
+        false
+    }
+
+    fn start(&mut self, _number: u64) -> Started {
+        Started::Ignore
+    }
+
+    fn begin(&mut self, place: &Place<'_>) -> Started {
+        match place.id {
+            Some(id) => Started::Fail(Reason::Error(Text::joined(b"", id.as_bytes()))),
+            None => self.start(place.number),
+        }
+    }
+
+    fn turn(&mut self, _told: Told) -> Turn {
+        Turn::Wait
+    }
+}
+
+// What it answers where it is started so is what its supervisor is told.
+fn is_told_its_id(rt: &impl Abort, alloc: Global, id: Option<Name>, note: Note) {
+    let named: Box<Named, Global> = got(rt, "memory", Box::new(alloc, Named));
+    let job: BoxedJob = named;
+    let ticket = Ticket {
+        number: 7,
+        slot: 3,
+        table: 1,
+        id,
+        again: false,
+    };
+    let body: AnyBody = Body::Worker(job);
+    let process = got(rt, "memory was refused", Process::of(alloc, ticket, body));
+    assert!(rt; process.is_runnable());
+    let told = match one_turn(process, Signal::None) {
+        After::Done(end, spent) => {
+            let told = end.note;
+            drop(end);
+            let _ = spent.into_number();
+            told
+        }
+        After::Again(process) | After::Waits(process) | After::Begun(process, _) => {
+            drop(process);
+            panic!(rt; "its start is refused")
+        }
+    };
+    same(rt, "its note", told, note);
+}
+
+#[test]
+fn a_job_is_told_its_id_at_its_start(rt: HostRuntime) {
+    let id = Name::new(b"db");
+    let failed = Note::Failed(7, Reason::Error(Text::joined(b"", b"db")));
+    is_told_its_id(&rt, rt.alloc(), id, failed);
+    is_told_its_id(&rt, rt.alloc(), None, Note::Ignored(7));
 }
 
 // It begins, or waits on, in a turn with this signal.

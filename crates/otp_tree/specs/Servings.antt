@@ -11,7 +11,7 @@ module _ {J S : Type 0} where
   -- tree; and nothing else of the hand changed
   pub record SentLetter (tables : ℕ) (u : Unsent J S) (old new : HandView J S) : Type 0 where
     pub place : ℕ
-    pub there : u.table ≤ tables → place ≡ u.table
+    pub there : u.ticket.table ≤ tables → place ≡ u.ticket.table
     pub reaches : place < length old.senders
     pub sent : (s : SenderState Message) → slice_get old.senders place ≡ Some s → new.senders ≡ slice_set old.senders place (record s { sent = s.sent ++ message u.letter.item u.letter.end ∷ [] })
     pub others : new ≡ record old { senders = new.senders; unsent = None }

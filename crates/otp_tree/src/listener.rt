@@ -1,16 +1,17 @@
 //! Who is told what a hand does.
 
-use otp_reason::Note;
+use crate::happening::Happening;
+use otp_job::Ticket;
 
 /// What is told of the turns of a hand while it makes them, in the hand's own thread and with no lock held. No method needs to be
 /// written: each does nothing by default.
 ///
-/// Whoever lets hands sleep wakes one by it: a supervisor that waits in a hand has its next turn in that hand alone, and so has a
-/// job that waits.
+/// Whoever lets hands sleep wakes one by it for a letter: a supervisor that waits in a hand has its next turn in that hand alone, and so
+/// has a job that waits. For a signal the hand that posts it wakes the one in which that child waits ([`Hand::open_post`](crate::Hand)).
 pub trait Listener {
-    /// A letter with this note has gone to the supervisor of this number; or to whoever opened the tree, who has the number behind
-    /// the last.
-    fn sent(&self, _table: usize, _note: Note) {}
+    /// A letter has gone, which tells that this happened to the process with this ticket. It went to the supervisor whose number the
+    /// ticket has, or to whoever opened the tree, who has the number behind the last.
+    fn sent(&self, _ticket: &Ticket, _what: Happening) {}
 
     /// The supervisor of this number had a turn in which it did something: it may have started processes, and have told its
     /// children something.

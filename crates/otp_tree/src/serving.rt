@@ -5,12 +5,13 @@ ghost use Rattle.otp_tree.specs.Servings.{SentOrKept};
 ghost use Rattle.otp_hand.specs.Standings.{standing_of};
 
 use crate::clock::Millis;
+use crate::happening::happening_of;
 use crate::listener::{Listener, Nobody};
 use crate::system::System;
 use otp_bridge::Subsystem;
 use otp_hand::places::put_into;
 use otp_hand::{Hand, Unsent};
-use otp_job::{Body, Job};
+use otp_job::{Body, Job, Ticket};
 use otp_reason::Note;
 use otp_run::RunNaming;
 use otp_signals::Signal;
@@ -158,7 +159,7 @@ impl<N: SupNaming, J: Job, S: Subsystem> System<N, J, S> {
     {
         let Some(
             Unsent {
-                table,
+                ticket,
                 letter,
                 note,
             },
@@ -166,19 +167,20 @@ impl<N: SupNaming, J: Job, S: Subsystem> System<N, J, S> {
         else {
             return true;
         };
-        let inbox = self.shared.inbox_of(table);
+        let inbox = self.shared.inbox_of(ticket.table);
         if inbox.number() >= hand.senders.len() {
-            keep_unsent(&mut hand.runner.unsent, table, letter, note);
+            keep_unsent(&mut hand.runner.unsent, ticket, letter, note);
             return false;
         }
+        let what = happening_of(note, letter.end(), ticket.again);
         match hand.senders.send(rt, inbox, letter) {
             Ok(()) => {
-                hand.runner.resting.call(table);
-                listener.sent(table, note);
+                hand.runner.resting.call(ticket.table);
+                listener.sent(&ticket, what);
                 true
             }
             Err(letter) => {
-                keep_unsent(&mut hand.runner.unsent, table, letter, note);
+                keep_unsent(&mut hand.runner.unsent, ticket, letter, note);
                 false
             }
         }
@@ -188,14 +190,14 @@ impl<N: SupNaming, J: Job, S: Subsystem> System<N, J, S> {
 /// Keeps a letter that was refused.
 fn keep_unsent<J: Drop, S: Drop>(
     place: &mut Option<Unsent<J, S>>,
-    table: usize,
+    ticket: Ticket,
     letter: Letter<Body<J, S>>,
     note: Note,
 )
-    ensures { place.new ≡ Some (record { table = table; letter = letter; note = note }) }
+    ensures { place.new ≡ Some (record { ticket = ticket; letter = letter; note = note }) }
 {
     let unsent = Unsent {
-        table,
+        ticket,
         letter,
         note,
     };

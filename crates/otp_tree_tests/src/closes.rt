@@ -4,8 +4,10 @@
 use crate::fixtures::{MEMORY, got, same};
 use crate::gates::{Clock, Wait as Before};
 use crate::guests::{Kind, Plan, common, crowd};
-use crate::lives::{Closed, Grove, check_ledger, check_pair, plans_of, ran};
-use otp_reason::{Note, Reason};
+use crate::lives::{
+    Closed, Grove, check_ledger, check_pair, check_strict, check_three, plans_of, ran,
+};
+use otp_reason::{Note, Reason, Text};
 use otp_rules::{Item, Kind as Event};
 use otp_spec::MAX_TABLES;
 use otp_tree::TableReport;
@@ -44,21 +46,44 @@ fn report_of<R: Threads + Wait + Abort + Sync>(
     report
 }
 
-// The whole life of the tree in one call, long enough for its end, or so short that processes are left. How far several
-// hands come depends on how their threads run: one may use up its turns while another, which has a process out, doesn't
-// run. So the end is asked of one hand alone.
+// What a tree is once all of it has ended.
+fn check_end<R: Abort>(rt: &R, grove: Grove, report: &Closed) {
+    match grove {
+        Grove::Pair => check_pair(rt, report),
+        Grove::Three => check_three(rt, report),
+        Grove::Strict => check_strict(rt, report),
+        _ => panic!(rt; "a tree that ends"),
+    }
+}
+
+// The whole life of a tree in one call, long enough for its end. How far several hands come depends on how their threads run: one may
+// use up its turns while another, which has a process out, doesn't run. So the end is asked of one hand, and of more where all has
+// ended.
+fn runs_whole<R: Threads + Wait + Abort + Sync>(rt: &R, alloc: Global, grove: Grove, hands: usize) {
+    let report = report_of(rt, alloc, grove, hands, 20_000);
+    check_accounts(rt, &report);
+    check_numbers(rt, alloc, &report);
+    if hands == 1 || report.live == 0 {
+        check_end(rt, grove, &report);
+    }
+    drop(report);
+}
+
 #[test]
 fn a_whole_tree_is_run_in_one_call(rt: HostRuntime) {
-    for hands in [1, 2, 4, 8] {
-        let report = report_of(&rt, rt.alloc(), Grove::Pair, hands, 20_000);
-        assert!(rt; report.tables.len() == 2);
-        check_ledger(&rt, &report);
-        if hands == 1 {
-            check_pair(&rt, &report);
+    for grove in [Grove::Pair, Grove::Three, Grove::Strict] {
+        for hands in [1, 2, 4, 8] {
+            runs_whole(&rt, rt.alloc(), grove, hands);
         }
-        drop(report);
+    }
+}
+
+// So short that processes are left.
+#[test]
+fn a_tree_is_closed_in_the_midst_of_its_life(rt: HostRuntime) {
+    for hands in [1, 2, 4, 8] {
         let report = report_of(&rt, rt.alloc(), Grove::Pair, hands, 1);
-        check_ledger(&rt, &report);
+        check_accounts(&rt, &report);
         assert!(rt; report.tables.len() == 2 && report.live > 0);
         drop(report);
     }
@@ -172,6 +197,27 @@ fn check_numbers<R: Abort>(rt: &R, alloc: Global, report: &Closed) {
     }
 }
 
+// The number of the first child's process: 0 is the root's.
+const FIRST: u64 = 1;
+
+// A supervisor gave so many numbers, one after the other, and this one first.
+fn check_turn<R: Abort>(rt: &R, table: &TableReport, first: u64, count: u64) {
+    let history = table.core.history();
+    let mut next = first;
+    for place in 0..history.len() {
+        if let Some(number) = history.get(place).number {
+            same(rt, "a number in turn", number, next);
+            next = next.saturating_add(1);
+        }
+    }
+    same(
+        rt,
+        "the number after the last",
+        next,
+        first.saturating_add(count),
+    );
+}
+
 // Marks the numbers that a supervisor gave, which none has given before.
 fn marks_all<R: Abort>(rt: &R, given: &mut [bool], table: &TableReport) {
     let history = table.core.history();
@@ -209,6 +255,7 @@ fn check_small<R: Abort>(rt: &R, report: &Closed) {
     let counted = (root.starts(), root.restarts(), root.events());
     same(rt, "the starts and events", counted, (3, 0, 8));
     same(rt, "its end", root.end(), Some(Reason::Shutdown));
+    check_turn(rt, root, FIRST, 3);
     assert!(rt; root.left.is_empty() && root.unsent_orders == 0 && root.unsent == 0);
     let counted = (report.begun, report.ended, report.live);
     same(rt, "the processes", counted, (4, 4, 0));
@@ -267,32 +314,38 @@ fn a_gate_is_told_of_no_idle_turn_while_workers_work(rt: HostRuntime) {
     drop(clock);
 }
 
-// How many processes ended normally, and how many otherwise, by the histories.
-fn ends_of(report: &Closed) -> (u64, u64) {
+// How many processes ended normally, how many otherwise, and how the first of them ended, by the histories.
+fn ends_of(report: &Closed) -> (u64, u64, Option<Reason>) {
     let (mut normal, mut other): (u64, u64) = (0, 0);
+    let mut first = None;
     for table in report.tables.as_slice() {
         let history = table.core.history();
         for place in 0..history.len() {
-            match history.get(place).kind {
-                Event::Took(Item::Note(Note::Exit(_, Reason::Normal))) => {
-                    normal = normal.saturating_add(1);
+            if let Event::Took(Item::Note(Note::Exit(_, reason))) = history.get(place).kind {
+                first = first.or(Some(reason));
+                match reason {
+                    Reason::Normal => normal = normal.saturating_add(1),
+                    _ => other = other.saturating_add(1),
                 }
-                Event::Took(Item::Note(Note::Exit(..))) => other = other.saturating_add(1),
-                _ => {}
             }
         }
     }
-    (normal, other)
+    (normal, other, first)
 }
 
-// Two workers end well only where they run at once. There are three hands, so that one is idle where one of them has both workers and
-// another the supervisor: it steals a worker. One hand can't run them so: the first holds in vain, and the second sees that the first
-// had its turn.
+fn alone() -> Option<Reason> {
+    Some(Reason::Error(Text::joined(b"alone", b"")))
+}
+
+// Two workers end well only where they run at once: where one of two hands has both, the other steals one. One hand can't run them
+// so: the first holds in vain, and the second sees that the first had its turn. With three hands one has nothing to do at last.
 #[test]
 fn several_threads_run_two_jobs_at_once_and_one_does_not(rt: HostRuntime) {
+    let met: (u64, u64, Option<Reason>) = (2, 0, Some(Reason::Normal));
     let runs = [
-        (Grove::Meeting(10_000_000), 3, 20_000, (2, 0)),
-        (Grove::Meeting(1000), 1, 1000, (1, 1)),
+        (Grove::Meeting(10_000_000), 2, 1_000_000, met),
+        (Grove::Meeting(10_000_000), 3, 20_000, met),
+        (Grove::Meeting(1000), 1, 1000, (1, 1, alone())),
     ];
     for (grove, hands, turns, ends) in runs {
         let (report, clock) = run_so(&rt, rt.alloc(), grove, Before::First, hands, turns);

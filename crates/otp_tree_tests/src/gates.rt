@@ -24,6 +24,8 @@ pub(crate) enum Wait {
     Each,
     /// The other hands make no turn before the first has started two workers.
     First,
+    /// For a worker that lingers, for some looks.
+    Lingering,
 }
 
 /// A clock, and what a gate is told of a run.
@@ -89,11 +91,15 @@ impl Gate for Clock {
             Wait::First => {
                 let _both = hand == 0 || self.shared.both_start();
             }
+            Wait::Lingering => {
+                let _lingers = self.shared.one_lingers();
+            }
         }
         self.now.fetch_add(self.step, Ordering::SeqCst).min(1 << 62)
     }
 
     fn idle(&self, _hand: usize) {
+        self.shared.note_idle();
         if self.live.load(Ordering::SeqCst) == 0 {
             self.idle.fetch_add(1, Ordering::SeqCst);
         }

@@ -30,6 +30,8 @@ pub(crate) enum Kind {
     Stubborn,
     /// Looks for the other of two until that has its turn, for so many looks. Whether it is the first of them.
     Meets(bool, u64),
+    /// Works on, in turns of so many looks each.
+    Lingers(u64),
 }
 
 /// What the workers of a tree share with their test. Counts are of all workers together.
@@ -44,7 +46,16 @@ pub(crate) struct Shared {
     /// 1 once the first of two that meet had its turn.
     first: AtomicU64,
     second: AtomicU64,
+    /// 1 while a worker lingers in its turn.
+    lingers: AtomicU64,
+    /// Turns of hands in which none had anything to do, and those of them in which a worker lingered all the same.
+    idle: AtomicU64,
+    beside: AtomicU64,
 }
+
+/// So often no hand is told in error that none has anything to do. Once in a round it may be: where a thread begins so late that the
+/// others no longer wait for it.
+pub(crate) const TOO_OFTEN: u64 = 10;
 
 /// The same for each of them.
 pub(crate) type Common = Arc<Shared>;
@@ -57,6 +68,9 @@ pub(crate) fn common(rt: &impl Abort, alloc: Global) -> Common {
         wanted: AtomicU64::new(0),
         first: AtomicU64::new(0),
         second: AtomicU64::new(0),
+        lingers: AtomicU64::new(0),
+        idle: AtomicU64::new(0),
+        beside: AtomicU64::new(0),
     };
     got(rt, MEMORY, Arc::new(alloc, shared))
 }
@@ -93,6 +107,37 @@ impl Shared {
     /// A worker is to crash.
     pub(crate) fn want_crash(&self) {
         self.wanted.store(1, Ordering::SeqCst);
+    }
+
+    /// Turns of hands in which none had anything to do, so far.
+    pub(crate) fn idle(&self) -> u64 {
+        self.idle.load(Ordering::SeqCst)
+    }
+
+    /// Those of them in which a worker was in its turn all the same.
+    pub(crate) fn beside(&self) -> u64 {
+        self.beside.load(Ordering::SeqCst)
+    }
+
+    /// A hand was told that none has anything to do.
+    pub(crate) fn note_idle(&self) {
+        self.idle.fetch_add(1, Ordering::SeqCst);
+        if self.lingers.load(Ordering::SeqCst) == 1 {
+            self.beside.fetch_add(1, Ordering::SeqCst);
+        }
+    }
+
+    /// Whether a worker lingers, soon.
+    pub(crate) fn one_lingers(&self) -> bool {
+        comes_to(&self.lingers, 1, 20)
+    }
+
+    /// A turn that lasts for so many looks, or until hands were often told that none has anything to do.
+    fn linger(&self, looks: u64) -> Turn {
+        self.lingers.store(1, Ordering::SeqCst);
+        let _told = comes_to(&self.beside, TOO_OFTEN, looks);
+        self.lingers.store(0, Ordering::SeqCst);
+        Turn::Again
     }
 
     /// Whether both of two that meet have started, soon.
@@ -194,6 +239,7 @@ impl Job for Worker {
             Kind::Waits if told == Told::Shutdown => Turn::End(Reason::Shutdown),
             Kind::Waits | Kind::Stubborn => Turn::Wait,
             Kind::Meets(is_first, looks) => self.meet(is_first, looks),
+            Kind::Lingers(looks) => self.shared.linger(looks),
         }
     }
 }

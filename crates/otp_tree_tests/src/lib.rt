@@ -15,6 +15,8 @@ mod guests;
 #[cfg(test)]
 mod lives;
 #[cfg(test)]
+mod looks;
+#[cfg(test)]
 mod script;
 #[cfg(test)]
 mod sessions;

@@ -3,9 +3,11 @@ ghost use Rattle.std.specs.Prelude.{◌≡◌, ◌<◌, ◌≤◌, length};
 ghost use Rattle.otp_run.specs.Rule.{all_parts};
 ghost use Rattle.otp_spec.specs.declared.limits.TheConstants.{MAX_TABLES};
 
-use crate::fixtures::{got, same};
+use crate::fixtures::{MEMORY, got, same};
 use crate::gates::{Clock, Wait as Before};
-use crate::guests::{Child, Common, Kind, Plan, Worker, again, both, common, crowd, one, plan_of};
+use crate::guests::{
+    Child, Common, Kind, Plan, TOO_OFTEN, Worker, again, both, common, crowd, one, plan_of,
+};
 use crate::script::{Question, Script, Seen, Step};
 use otp_bridge::BoxedSubsystem;
 use otp_reason::Reason;
@@ -40,6 +42,12 @@ pub(crate) enum Grove {
     Storm(bool, u64),
     /// Two workers that meet, or look for each other so often.
     Meeting(u64),
+    /// The root has `sub`, which bears no restart and has the worker `x`, which crashes once.
+    Strict,
+    /// The root has eight supervisors, with a worker of this kind each.
+    Wide(Kind),
+    /// One supervisor of a worker whose turns last for so many looks.
+    Lingering(u64),
 }
 
 /// How many workers a crowd of waiters has.
@@ -80,6 +88,33 @@ const BELOW: [Child; 2] = [
     Child::Does("c", Kind::CrashesOnce),
 ];
 
+const WIDE: [Child; 8] = [
+    Child::Sup("a", 1),
+    Child::Sup("b", 2),
+    Child::Sup("c", 3),
+    Child::Sup("d", 4),
+    Child::Sup("e", 5),
+    Child::Sup("f", 6),
+    Child::Sup("g", 7),
+    Child::Sup("h", 8),
+];
+
+fn wide(rt: &impl Abort, alloc: Global, kind: Kind, shared: &Common) -> Vec<Plan> {
+    let mut plans = single(rt, alloc, &WIDE, shared);
+    let one = [Child::Does("x", kind)];
+    for _ in 0..WIDE.len() {
+        let sub = plan_of(rt, alloc, &one, 1_000, shared);
+        got(rt, MEMORY, plans.push(sub));
+    }
+    plans
+}
+
+// `sub` bears no restart.
+fn strict(rt: &impl Abort, alloc: Global, kind: Kind, shared: &Common) -> Vec<Plan> {
+    let sub = [Child::Does("x", kind)];
+    nested(rt, alloc, &SUB, &sub, (1, 0), shared)
+}
+
 // Of a tree of one supervisor.
 fn single(rt: &impl Abort, alloc: Global, children: &[Child], shared: &Common) -> Vec<Plan> {
     one(rt, alloc, plan_of(rt, alloc, children, 1, shared))
@@ -107,9 +142,12 @@ pub(crate) fn plans_of(rt: &impl Abort, alloc: Global, grove: Grove, shared: &Co
     match grove {
         Grove::Pair => nested(rt, alloc, &PAIR, &BELOW, (1, 1), shared),
         Grove::Three => single(rt, alloc, &THREE, shared),
-        Grove::Fragile => {
-            let sub = [Child::Does("x", Kind::Fragile)];
-            nested(rt, alloc, &SUB, &sub, (1, 0), shared)
+        Grove::Fragile => strict(rt, alloc, Kind::Fragile, shared),
+        Grove::Strict => strict(rt, alloc, Kind::CrashesOnce, shared),
+        Grove::Wide(kind) => wide(rt, alloc, kind, shared),
+        Grove::Lingering(looks) => {
+            let one = [Child::Does("a", Kind::Lingers(looks))];
+            single(rt, alloc, &one, shared)
         }
         Grove::Guests => nested(rt, alloc, &SUB, &GUESTS, (1, 1), shared),
         Grove::Waiters => {
@@ -243,6 +281,21 @@ pub(crate) fn was_table(rt: &impl Abort, table: Option<&TableReport>, starts: u6
     same(rt, "a supervisor", told, wanted);
 }
 
+/// What the strict tree is once all of it has ended: `sub` gave up once, and its worker was started twice.
+pub(crate) fn check_strict<R: Abort>(rt: &R, report: &Closed) {
+    assert!(rt; report.tables.len() == 2);
+    was_table(rt, report.tables.first(), 2, 1);
+    was_table(rt, report.tables.last(), 2, 0);
+    all_ended(rt, report, 5);
+}
+
+/// What a supervisor of three steady workers is once it has ended.
+pub(crate) fn check_three<R: Abort>(rt: &R, report: &Closed) {
+    assert!(rt; report.tables.len() == 1);
+    was_table(rt, report.tables.first(), 3, 0);
+    all_ended(rt, report, 4);
+}
+
 /// What the pair is once all of it has ended: two children of the root and two of `sub` were started, one of these once more, and
 /// nobody has anything left.
 pub(crate) fn check_pair<R: Abort>(rt: &R, report: &Closed) {
@@ -263,10 +316,21 @@ const UP_AND_DOWN: Life = Life {
     seen: &[Seen::Up, END],
 };
 
+// The root is asked to stop before the turns of that round, so that it has ended after them. There is no round behind it.
+const STOPS_AT_ONCE: Life = Life {
+    steps: &[Step::Up, Step::Starts(4, 0), Step::Stop],
+    ..UP_AND_DOWN
+};
+
 #[test]
 fn a_tree_is_served_by_one_hand_and_by_several(rt: HostRuntime) {
-    for hands in [1, 2, 4] {
-        let lived = live(&rt, rt.alloc(), &UP_AND_DOWN, hands);
+    for (life, hands) in [
+        (UP_AND_DOWN, 1),
+        (UP_AND_DOWN, 2),
+        (UP_AND_DOWN, 4),
+        (STOPS_AT_ONCE, 1),
+    ] {
+        let lived = live(&rt, rt.alloc(), &life, hands);
         goes_up_and_down(&rt, &lived);
         drop(lived);
     }
@@ -509,6 +573,78 @@ fn jobs_that_wait_take_no_turns_until_they_are_told(rt: HostRuntime) {
             drop(lived);
         }
     }
+}
+
+// Nine supervisors of a hand rest, while eight workers want turns. One crashes, and its supervisor has the next turn: no worker has
+// one before. Rounds are of one turn.
+const CALLED: Life = Life {
+    grove: Grove::Wide(Kind::Fragile),
+    turns: 1,
+    steps: &[
+        Step::Up,
+        Step::Rounds(40),
+        Step::Crash,
+        Step::Mark,
+        Step::Rounds(1),
+        Step::Count,
+        Step::Rounds(40),
+        Step::Crash,
+        Step::Mark,
+        Step::Rounds(1),
+        Step::Count,
+        Step::Rounds(40),
+        Step::Crash,
+        Step::Mark,
+        Step::Rounds(1),
+        Step::Count,
+    ],
+    seen: &[Seen::Up, Seen::Turns(0), Seen::Turns(0), Seen::Turns(0)],
+    ..UP_AND_DOWN
+};
+
+// All of them rest, and their workers wait. While they are stopped each turn of the hand finds something to do.
+const AT_LEISURE: Life = Life {
+    grove: Grove::Wide(Kind::Waits),
+    turns: 1,
+    steps: &[
+        Step::Up,
+        Step::Turns(8),
+        Step::Rounds(40),
+        Step::Mark,
+        Step::Stop,
+        Step::End,
+        Step::CountIdle,
+    ],
+    seen: &[Seen::Up, END, Seen::Idle(0)],
+    ..UP_AND_DOWN
+};
+
+#[test]
+fn whoever_rests_is_found_at_once(rt: HostRuntime) {
+    for (life, live_at_end) in [(CALLED, 17), (AT_LEISURE, 0)] {
+        let lived = live(&rt, rt.alloc(), &life, 1);
+        check_ledger(&rt, &lived.report);
+        same(&rt, "the live", lived.report.live, live_at_end);
+        drop(lived);
+    }
+}
+
+// One worker, whose turns last long, and two hands. The other one has nothing to do, but isn't told so before the worker's hand has
+// made its turns.
+const LINGERING: Life = Life {
+    grove: Grove::Lingering(20),
+    wait: Before::Lingering,
+    turns: 20,
+    steps: &[Step::Up, Step::Rounds(3)],
+    seen: &[Seen::Up],
+    ..UP_AND_DOWN
+};
+
+#[test]
+fn no_hand_is_idle_beside_one_that_works(rt: HostRuntime) {
+    let lived = live(&rt, rt.alloc(), &LINGERING, 2);
+    assert!(rt; lived.shared.turns() > 0 && lived.shared.beside() < TOO_OFTEN);
+    drop(lived);
 }
 
 // Trees that live longer than any history: more events than one holds, until a stop. The clock goes on by 10 ms with each turn, so

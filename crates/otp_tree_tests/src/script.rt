@@ -32,8 +32,12 @@ pub(crate) enum Step {
     AskLate(usize, Question),
     /// Looks again for the answer that came last.
     AskAgain,
+    /// From here on it is counted what is written down of turns.
+    Mark,
     /// Writes down how many turns the workers had.
     Count,
+    /// Writes down in how many turns of hands none had anything to do.
+    CountIdle,
     /// Asks the root to shut down.
     Stop,
     /// Serves until the root has ended.
@@ -60,6 +64,8 @@ pub(crate) enum Seen {
     Ended(Reason),
     /// So many turns of workers.
     Turns(u64),
+    /// So many turns in which no hand had anything to do.
+    Idle(u64),
     Ok,
     /// A child was started under this number.
     Started(u64),
@@ -89,9 +95,14 @@ pub(crate) struct Script {
     // Rounds so far, and those of the step that is done.
     pub(crate) rounds: u64,
     spent: u64,
+    // Turns of workers, and of hands that had nothing to do, at the mark.
+    turns_before: u64,
+    idle_before: u64,
     pub(crate) seen: Vec<Seen>,
     is_up: bool,
     has_ended: bool,
+    // The supervisor that was asked last.
+    asked: usize,
     // The call whose answer is still to come, and the one that was answered last.
     unanswered: Option<CallId>,
     answered: Option<CallId>,
@@ -113,9 +124,12 @@ impl Script {
             turns,
             rounds: 0,
             spent: 0,
+            turns_before: 0,
+            idle_before: 0,
             seen: got(rt, MEMORY, Vec::with_capacity(alloc, 16)),
             is_up: false,
             has_ended: false,
+            asked: 0,
             unanswered: None,
             answered: None,
         }
@@ -183,9 +197,19 @@ impl Script {
                 Some(asked) => Round::Await(asked, 0),
                 None => Round::Leave,
             }),
+            Step::Mark => {
+                self.turns_before = self.shared.turns();
+                self.idle_before = self.shared.idle();
+                None
+            }
             Step::Count => {
-                let turns = self.shared.turns();
+                let turns = self.shared.turns().saturating_sub(self.turns_before);
                 self.see(Seen::Turns(turns));
+                None
+            }
+            Step::CountIdle => {
+                let idle = self.shared.idle().saturating_sub(self.idle_before);
+                self.see(Seen::Idle(idle));
                 None
             }
             Step::Stop => Some(self.stop()),
@@ -193,7 +217,13 @@ impl Script {
         }
     }
 
-    fn ask(&self, table: usize, question: Question, turns: u64) -> Round<Worker, BoxedSubsystem> {
+    fn ask(
+        &mut self,
+        table: usize,
+        question: Question,
+        turns: u64,
+    ) -> Round<Worker, BoxedSubsystem> {
+        self.asked = table;
         match self.call_of(question) {
             Some((call, body)) => Round::Call(CallRequest {
                 table,
@@ -223,6 +253,15 @@ impl Script {
             Question::AddTable => (Call::StartDynamic, Some(Body::Sup(TableNo::new(0)))),
         };
         Some((call, body))
+    }
+
+    // Whether the call is said to be of the supervisor that was asked. No test wants to see another.
+    fn hear_of(&mut self, call: CallId) -> bool {
+        let is_of = call.table == self.asked;
+        if !is_of {
+            self.see(Seen::Other);
+        }
+        is_of
     }
 
     // What a supervisor answered, and whether the body that the call brought is back.
@@ -277,12 +316,20 @@ impl Leader<Worker, BoxedSubsystem> for Script {
     fn hear(&mut self, answer: CallEnd<Worker, BoxedSubsystem>) {
         match answer {
             CallEnd::Answered(asked, reply, body) => {
-                self.answered = Some(asked);
-                self.hear_answer(&reply, body.is_some());
+                if self.hear_of(asked) {
+                    self.answered = Some(asked);
+                    self.hear_answer(&reply, body.is_some());
+                }
             }
-            CallEnd::Gone(..) => self.see(Seen::Gone),
+            CallEnd::Gone(asked, _) => {
+                if self.hear_of(asked) {
+                    self.see(Seen::Gone);
+                }
+            }
             CallEnd::Unanswered(asked) | CallEnd::OutOfMemory(asked) => {
-                self.unanswered = Some(asked);
+                if self.hear_of(asked) {
+                    self.unanswered = Some(asked);
+                }
             }
             CallEnd::Unsent(fault) => self.hear_unsent(fault),
         }

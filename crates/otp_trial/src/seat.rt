@@ -141,7 +141,7 @@ impl Seat {
         self.core.prepare()?;
         let mut numbers = Counter { last };
         self.is_whole = false;
-        self.core.step_with(time, kind, &mut numbers);
+        self.core.step_with(time, &kind, &mut numbers);
         let starts = self.starts.as_slice();
         tell(
             time,

@@ -73,7 +73,7 @@ fn main(rt: HostRuntime) -> io::Result<()> {
             counts.active
         )?,
         Ok(_) => println!(rt; "the tree had too few turns")?,
-        Err(fault) => println!(rt; "the tree was not opened: {fault:?}")?,
+        Err(fault) => println!(rt; "the tree was not opened: {fault}")?,
     }
     count_down(rt)
 }

@@ -1,17 +1,11 @@
 //! A tree of jobs of one's own: opened, served by two hands in turn, called, asked to stop, and ended.
-ghost use Rattle.std.specs.Prelude.{◌≡◌, true, length, IfOk};
+ghost use Rattle.std.specs.Prelude.{true};
 
-use otp_bridge::BoxedSubsystem;
-use otp_core::ReplyAnswer;
-use otp_job::{Body, Job, Told, Turn};
-use otp_reason::{Name, Note, Reason, Started};
-use otp_rules::{Call, CountsNow, Reply};
-use otp_spec::{SpecFault, SupFlags};
-use otp_tree::{
-    Client, Hand, Millis, Session, System, SystemFault, TableDraft, TablePlan, TreeNaming,
-    with_system,
+use otp::{
+    Body, BoxedSubsystem, Call, Client, CountsNow, Fault, Hand, Job, Millis, Note, Reason, Reply,
+    ReplyAnswer, Session, Started, SupFlags, System, Told, TreeDraft, TreeNaming, Turn, with_tree,
 };
-use std::alloc::{AllocError, Global};
+use std::alloc::Global;
 use std::sync::Wait;
 
 /// Waits until it is asked to shut down.
@@ -35,57 +29,6 @@ impl Job for Steady {
             Told::Nothing => Turn::Wait,
         }
     }
-}
-
-/// Why no tree was run.
-#[derive(Clone, Copy, Debug, PartialEq, Eq)]
-pub enum NoRun {
-    /// The plan says an unlawful supervisor.
-    Unlawful(SpecFault),
-    /// The tree was not opened.
-    NotOpened(SystemFault),
-    OutOfMemory,
-}
-
-impl From<SystemFault> for NoRun {
-    fn from(fault: SystemFault) -> Self {
-        NoRun::NotOpened(fault)
-    }
-}
-
-/// The plan of a tree: one supervisor, of two steady workers.
-fn plans(alloc: Global) -> Result<Vec<TablePlan<Steady, BoxedSubsystem>>, NoRun>
-    ensures { IfOk result (λ plans. length plans.items ≡ 1) }
-{
-    let mut root = TableDraft::new(alloc);
-    let Ok(()) = add_workers(&mut root) else {
-        drop(root);
-        return Err(NoRun::OutOfMemory);
-    };
-    let plan = match root.plan(SupFlags::default()) {
-        Ok(plan) => plan,
-        Err(back) => {
-            let fault = back.fault;
-            drop(back);
-            return Err(NoRun::Unlawful(fault));
-        }
-    };
-    let Ok(mut plans) = Vec::with_capacity(alloc, 1) else {
-        drop(plan);
-        return Err(NoRun::OutOfMemory);
-    };
-    plans.push_reserved(plan);
-    Ok(plans)
-}
-
-/// Two workers for a supervisor.
-fn add_workers(root: &mut TableDraft<Steady, BoxedSubsystem>) -> Result<(), AllocError> {
-    for id in [b"a", b"b"] {
-        if let Some(id) = Name::new(id) {
-            root.add_worker(id, Steady).map_err(|_| AllocError)?;
-        }
-    }
-    Ok(())
 }
 
 /// A clock that stands still.
@@ -191,7 +134,10 @@ where
     None
 }
 
-/// A tree of one supervisor, for two hands.
-pub fn up_and_down<R: Wait>(rt: &R, alloc: Global) -> Result<Run, NoRun> {
-    Ok(with_system(rt, alloc, plans(alloc)?, 2, UpAndDown { alloc })?)
+/// A tree of one supervisor and two steady workers, for two hands.
+pub fn up_and_down<R: Wait>(rt: &R, alloc: Global) -> Result<Run, Fault> {
+    let mut root: TreeDraft<Steady> = TreeDraft::new(alloc, SupFlags::default());
+    root.add_worker("a", Steady)?;
+    root.add_worker("b", Steady)?;
+    Ok(with_tree(rt, alloc, root, 2, UpAndDown { alloc })?)
 }

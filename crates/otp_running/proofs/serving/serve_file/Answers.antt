@@ -14,6 +14,7 @@ returns-in-Ok-write_all-clause-done g c =
     (c.in-Ok.ensures {u = tt}).tree
     (c.in-Ok-serve_tree.ensures {u = tt}).runnable (
       (c.in-Ok-serve_tree.ensures {u = tt}).served,
+      (c.in-Ok-serve_tree.ensures {u = tt}).plans,
       (
         c.in-Ok-say.text.items,
         (

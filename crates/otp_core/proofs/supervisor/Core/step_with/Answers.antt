@@ -26,7 +26,7 @@ pub invariant_of-self : goal.invariant_of-self
 invariant_of-self g c =
     let before : Outcome = outcome_of c.self.inside.machine in
     let after : Outcome = outcome_of c.step-number.new.self in
-    let event : Event = record { reading = c.args.reading; number = c.step-number.result; kind = c.args.kind } in
+    let event : Event = record { reading = c.args.reading; number = c.step-number.result; kind = c.args.kind.now } in
     let events : List Event = events_of c.self.inside in
     let longer : List Event = c.push.new.self.past ++ c.push.new.self.events in
     let more : longer ≡ events ++ event ∷ [] =
@@ -80,7 +80,7 @@ invariant_of-self g c =
 
 pub returns-clause-history : goal.returns-clause-history
 returns-clause-history g c =
-    let event : Event = record { reading = c.args.reading; number = c.step-number.result; kind = c.args.kind } in
+    let event : Event = record { reading = c.args.reading; number = c.step-number.result; kind = c.args.kind.now } in
     ap (λ (p : List Event). p ++ c.push.new.self.events) c.push.ensures.past ∙ ap (λ (es : List Event). c.self.inside.history.past ++ es) c.push.ensures.events
     ∙ sym (append_assoc c.self.inside.history.past c.self.inside.history.events (event ∷ []))
     ∙ ap (λ (v : View). v.history ++ event ∷ []) c.self.view_is
@@ -88,7 +88,7 @@ returns-clause-history g c =
 pub returns-clause-effects : goal.returns-clause-effects
 returns-clause-effects g c =
     let before : Outcome = outcome_of c.self.inside.machine in
-    let event : Event = record { reading = c.args.reading; number = c.step-number.result; kind = c.args.kind } in
+    let event : Event = record { reading = c.args.reading; number = c.step-number.result; kind = c.args.kind.now } in
     let x : Earlier = dropped c.self.inside in
     ap (λ (o : Outcome). o.orders) c.step-number.ensures.outcome ∙ ap (λ (o : Outcome). o.orders) (c.orders_are_appended.ensures event before)
     ∙ ap (λ (os : List Effect). before.orders ++ os) (sym (c.cuts_agree.ensures.step x.replies x.ends before.state event).1)
@@ -107,7 +107,7 @@ returns-clause-answers g c =
     let i = invariant_of-self g c in
     let before : Outcome = outcome_of c.self.inside.machine in
     let after : Outcome = outcome_of c.step-number.new.self in
-    let event : Event = record { reading = c.args.reading; number = c.step-number.result; kind = c.args.kind } in
+    let event : Event = record { reading = c.args.reading; number = c.step-number.result; kind = c.args.kind.now } in
     let moved : after.state ≡ (step before.state event).state =
     ap (λ (o : Outcome). o.state) c.step-number.ensures.outcome ∙ ap (λ (o : Outcome). o.state) (c.orders_are_appended.ensures event before) in
     let first : State = first_of c.self.inside in

@@ -1,4 +1,5 @@
 use Rattle.std.proofs.Common.{◌≡◌, refl, ap, sym, ◌∙◌, Bool, true, List, [], ◌∷◌, ◌++◌, Option, subst, arith}
+use Rattle.otp_core.specs.Again.{starts_again}
 use Rattle.otp_core.specs.View.{state_of}
 use Rattle.otp_office.proofs.Putting.{starts_slot}
 use Rattle.std.specs.Prelude.{is_some}
@@ -9,7 +10,7 @@ use Rattle.otp_office.specs.Flushes.{IsSent, first_end}
 use Rattle.otp_rules.specs.declared.ending.SupEnd.{SupEnd}
 use Rattle.otp_bodies.specs.declared.port.Launched.{Launched}
 use Rattle.otp_bodies.specs.declared.port.ToldNote.{ToldNote}
-use Rattle.otp_bodies.specs.Ports.{Taken, taken_by, carried, told}
+use Rattle.otp_bodies.specs.Ports.{Taken, launched, taken_by, carried, told}
 use Rattle.otp_office.proofs.Sends.{sent_first, last_post, carried_last}
 use Rattle.otp_office.proofs.office.Office.flush_one.Goals as goal
 
@@ -48,10 +49,15 @@ returns-in_default-put-clause-flushed g c =
     let h = c.in_default-put.ensures {u = tt} in
     let before : Taken = taken_by (g.P.Port.processes c.args.port.now) (g.P.Port.notes c.args.port.now) in
     let after : Taken = taken_by (g.P.Port.processes c.put.new.self) (g.P.Port.notes c.put.new.self) in
-    let put : Launched = record { number = c.in-Start.number; slot = c.post-slot.result; body = true } in
-    let has : is_some c.args.body ≡ true = c.requires (starts_slot old c.in-Some.how c.in-Start.number (state_of old.core).rows (c.in-Some.ensures {u = tt}) c.in-Start.is) in
-    let took : after ≡ record before { processes = before.processes ++ put ∷ [] } =
-    ap (λ (l : List Launched). taken_by l (g.P.Port.notes c.put.new.self)) (h.took ∙ ap (λ (b : Bool). before.processes ++ record { number = c.in-Start.number; slot = c.post-slot.result; body = b } ∷ []) has) ∙ ap (λ (l : List ToldNote). taken_by (before.processes ++ put ∷ []) l) h.notes in
+    let put : Bool → Bool → Launched = λ again body. launched c.in-Start.number c.post-slot.result c.in-Start.id again body in
+    let is_again : Bool = starts_again (state_of old.core).follows in
+    let has : is_some c.args.body ≡ true = c.requires (starts_slot old c.in-Some.how c.in-Start.id c.in-Start.number (state_of old.core).rows (c.in-Some.ensures {u = tt}) c.in-Start.is) in
+    let took : after ≡ record before { processes = before.processes ++ put is_again true ∷ [] } =
+    ap (λ (l : List Launched). taken_by l (g.P.Port.notes c.put.new.self))
+    (h.took
+    ∙ ap (λ (b : Bool). before.processes ++ put c.starts_again-again.result b ∷ []) has
+    ∙ ap (λ (a : Bool). before.processes ++ put a true ∷ []) c.starts_again-again.ensures)
+    ∙ ap (λ (l : List ToldNote). taken_by (before.processes ++ put is_again true ∷ []) l) h.notes in
     let S : Sending → Type 0 = λ w. IsSent w old new before after in (
       sent_first old _ new c.in-Some.how before after (c.in-Some.ensures {u = tt}) (ap (λ (o : OfficeView). o.outbox) p.owner) (ap (λ (o : OfficeView). o.sent) p.owner) (ap (λ (o : OfficeView). o.core) p.owner) (ap (λ (o : OfficeView). o.first_slot) p.owner) stepped
           (subst S (sym c.in-Start.is) (record { slot = c.post-slot.result; posted = last_post old _ new c.in-Start.number c.post-slot.result signal.None p stepped; took = took })),
@@ -61,7 +67,7 @@ returns-in_default-put-clause-flushed g c =
 pub returns-in_default-put-clause-bodies : goal.returns-in_default-put-clause-bodies
 returns-in_default-put-clause-bodies g c =
     let h = c.in_default-put.ensures {u = tt} in
-    let put : Launched = record { number = c.in-Start.number; slot = c.post-slot.result; body = is_some c.args.body } in
+    let put : Launched = launched c.in-Start.number c.post-slot.result c.in-Start.id c.starts_again-again.result (is_some c.args.body) in
     let more = ap carried h.took ∙ carried_last (g.P.Port.processes c.args.port.now) put in
     omega (arith, more)
 

@@ -25,14 +25,14 @@ returns-in_default-clause-ok c =
     let none : 4611686018427387904 - length c.self.inside.core.history ≡ 0 = omega (arith, (c.in_default.ensures {u = tt}).spent) in
     let Over : View → Sim = λ core. with_text c.args.out.now.items (sim_of_player (record c.self.inside { core = core; end = Some stop.HistoryFull })) in
     ap Over (c.in_default.ensures {u = tt}).err
-    ∙ sym (happen_full c.args.kind before (is_zero before.room none)) ∙ ap (λ (v : Sim). happen c.args.kind (with_text c.args.out.now.items v)) c.self.view_is
+    ∙ sym (happen_full c.args.kind.now before (is_zero before.room none)) ∙ ap (λ (v : Sim). happen c.args.kind.now (with_text c.args.out.now.items v)) c.self.view_is
 
 pub invariant_of-self-2 : goal.invariant_of-self-2
 invariant_of-self-2 c =
     let core : View = c.prepare.new.self in
     let prepared : core ≡ record c.self.inside.core { cut = c.make_room.new.core.cut; prepared = true } =
     c.in_ok-prepare.ensures.ok ∙ ap (λ (v : View). record v { prepared = true }) c.make_room.ensures.core in
-    let event : Event = record { reading = c.self.inside.reading; number = c.step_with.result; kind = c.args.kind } in
+    let event : Event = record { reading = c.self.inside.reading; number = c.step_with.result; kind = c.args.kind.now } in
     let cleared : c.clear_effects.new.self.history ≡ c.step_with.new.self.history = ap (λ (v : View). v.history) c.clear_effects.ensures in
     let same : core.history ≡ c.self.inside.core.history = ap (λ (v : View). v.history) prepared in
     let longer : c.clear_effects.new.self.history ≡ c.self.inside.core.history ++ event ∷ [] = cleared ∙ c.step_with.ensures.history ∙ ap (λ (h : List Event). h ++ event ∷ []) same in
@@ -61,16 +61,16 @@ returns-clause-ok c =
     let prepared : core ≡ record old { cut = c.make_room.new.core.cut; prepared = true } =
     c.in_ok-prepare.ensures.ok ∙ ap (λ (v : View). record v { prepared = true }) c.make_room.ensures.core in
     let before : Sim = with_text c.args.out.now.items (sim_of_player c.self.inside) in
-    let event : Event = record { reading = c.self.inside.reading; number = c.step_with.result; kind = c.args.kind } in
+    let event : Event = record { reading = c.self.inside.reading; number = c.step_with.result; kind = c.args.kind.now } in
     let after : View = c.clear_effects.new.self in
     let some : (before.room == 0) ≡ false = few_left (length old.history) (c.in-Ok.ensures {u = tt}).events in
     let same : state_of core ≡ state_of old = ap state_of prepared in
     let last : c.last_number.result ≡ last_number old.history = c.last_number.ensures.last ∙ ap (λ (v : View). last_number v.history) prepared in
-    let number : c.step_with.result ≡ (event_of c.args.kind before).number =
-    numbered c.step_with.result (needs_number (state_of core) c.self.inside.reading c.args.kind) (record { last = c.last_number.result }) c.step_with.new.numbers c.step_with.ensures.number c.step_with.ensures.drawn
-    ∙ ap (λ (s : State). if needs_number s c.self.inside.reading c.args.kind then Some (c.last_number.result + 1) else None) same
-    ∙ ap (λ (p : ℕ). if needs_number (state_of old) c.self.inside.reading c.args.kind then Some (p + 1) else None) last in
-    let is_event : event ≡ event_of c.args.kind before = ap (λ (n : Option ℕ). record { reading = c.self.inside.reading; number = n; kind = c.args.kind }) number in
+    let number : c.step_with.result ≡ (event_of c.args.kind.now before).number =
+    numbered c.step_with.result (needs_number (state_of core) c.self.inside.reading c.args.kind.now) (record { last = c.last_number.result }) c.step_with.new.numbers c.step_with.ensures.number c.step_with.ensures.drawn
+    ∙ ap (λ (s : State). if needs_number s c.self.inside.reading c.args.kind.now then Some (c.last_number.result + 1) else None) same
+    ∙ ap (λ (p : ℕ). if needs_number (state_of old) c.self.inside.reading c.args.kind.now then Some (p + 1) else None) last in
+    let is_event : event ≡ event_of c.args.kind.now before = ap (λ (n : Option ℕ). record { reading = c.self.inside.reading; number = n; kind = c.args.kind.now }) number in
     let moved : state_of c.step_with.new.self ≡ (step (state_of core) event).state =
     ap (λ (b : State). state_after b c.step_with.new.self.history) c.step_with.ensures.base ∙ ap (state_after core.base) c.step_with.ensures.history ∙ pushed core.base core.history event in
     let stepped : state_of c.step_with.new.self ≡ (step (state_of old) event).state = moved ∙ ap (λ (s : State). (step s event).state) same in
@@ -90,11 +90,11 @@ returns-clause-ok c =
     ∙ ap (λ (s : State). orders_text s.replies fresh) (sym (ap state_of c.clear_effects.ensures)) in
     (elim c.print_orders-printed.result as (λ r.
     OnOk r (c.print_orders-printed.new.out.items ≡ c.args.out.now.items ++ orders_text (stored_state c.step_with.new.self).replies c.step_with.new.self.effects) →
-    OnOk r (record before { state = state_of after; processes = last_number after.history; room = 4611686018427387904 - length after.history; text = c.print_orders-printed.new.out.items } ≡ happen c.args.kind (with_text c.args.out.now.items c.args.self.now))) [
+    OnOk r (record before { state = state_of after; processes = last_number after.history; room = 4611686018427387904 - length after.history; text = c.print_orders-printed.new.out.items } ≡ happen c.args.kind.now (with_text c.args.out.now.items c.args.self.now))) [
       | Ok _ ↦ λ text.
-          happened c.args.kind before event (state_of after) (last_number after.history) (4611686018427387904 - length after.history) c.print_orders-printed.new.out.items
+          happened c.args.kind.now before event (state_of after) (last_number after.history) (4611686018427387904 - length after.history) c.print_orders-printed.new.out.items
           some is_event is_state (last_pushed old.history after.history event longer) (omega (arith, count))
           (text ∙ ap (λ (t : List ℕ). c.args.out.now.items ++ t) printed)
-          ∙ ap (λ (v : Sim). happen c.args.kind (with_text c.args.out.now.items v)) c.self.view_is
+          ∙ ap (λ (v : Sim). happen c.args.kind.now (with_text c.args.out.now.items v)) c.self.view_is
       | Err _ ↦ λ x. x
     ]) c.print_orders-printed.ensures.ok

@@ -1,0 +1,71 @@
+-- A tree that was drawn up, by the plans that it was opened with.
+use Rattle.std.proofs.Common.{Some, None, ◌≡◌, ℕ, zero, suc, ◌≤◌, List, [], ◌∷◌, Bool, true, false, All, Result, arith, length, map, refl, sym, ap, ◌∙◌, subst}
+use Rattle.std.specs.Prelude.{slice_get, IfSome, MatchOption, if◌then◌else◌}
+use Rattle.otp_close.specs.Closes.{HaveBegun, report_in}
+use Rattle.otp_close.specs.declared.closing.CloseFault.{CloseFault}
+use Rattle.otp_draft.specs.Plans.{HasAllBodies, Planned, numbered, seen}
+use Rattle.otp_draft.specs.Trees.{Tree}
+use Rattle.otp_draft.specs.Trees as draft
+use Rattle.otp_draft.specs.declared.plan.TablePlan as drawn
+use Rattle.otp_open.specs.Plans.{HasBodies, HaveBodies, LacksBody, Suffice}
+use Rattle.otp_open.specs.Plans as opened
+use Rattle.otp_open.specs.declared.opening.SystemFault.TheVariants as open_fault
+use Rattle.otp_open.specs.declared.plan.TablePlan.{TablePlan}
+use Rattle.otp_report.specs.declared.report.Report.{Report}
+use Rattle.otp_report.specs.declared.report.TableReport.{TableReport}
+use Rattle.otp_rules.specs.Step.{opening_specs}
+use Rattle.otp_run.proofs.Places.{each_at, map_at}
+use Rattle.otp_run.specs.Lists.{AllAt}
+use Rattle.otp_spec.specs.Flags.{is_simple}
+use Rattle.otp_spec.specs.Supervisor.{Supervisor}
+use Rattle.otp_spec.specs.declared.child.ChildSpec.{ChildSpec}
+use Rattle.otp_sup.specs.Plans.{never_opened}
+use Rattle.otp_tree.specs.Closes.{IsRunOpenFault}
+use Rattle.otp_tree.specs.declared.whole.RunFault.{RunFault}
+use Rattle.otp_tree.specs.declared.whole.RunFault.TheVariants as run
+use Rattle.otp.specs.Runs.{IsRunNoneBare, seen_in_tree, supervisor_in, supervisors_of}
+
+-- so many bodies are one for each child
+is_enough : (simple : Bool) (specs : List ChildSpec) (bodies : ℕ) → bodies ≡ (if simple then 0 else length specs) → length (opening_specs simple specs) ≤ bodies
+is_enough true specs bodies same = omega arith
+is_enough false specs bodies same = omega (arith, same)
+
+module _ {J S : Type 0} where
+  said_at : (plans : List (TablePlan J S)) (k : ℕ) → opened.plans_of plans k ≡ supervisor_in (slice_get (map seen_in_tree plans) k)
+  said_at [] k = refl
+  said_at (plan ∷ plans) zero = refl
+  said_at (plan ∷ plans) (suc k) = said_at plans k
+
+  -- where the plans are those of the tree, the report is of the tree
+  pub have_begun : (plans : List (TablePlan J S)) (root : Tree J S) (tables : List TableReport)
+      → map seen_in_tree plans ≡ numbered 0 (draft.plans_of root) → HaveBegun (opened.plans_of plans) tables → HaveBegun (supervisors_of root) tables
+  have_begun plans root tables same begun =
+      each_at (λ k (t : TableReport). t.core.base ≡ never_opened (opened.plans_of plans k)) (λ k t. t.core.base ≡ never_opened (supervisors_of root k)) tables begun
+      (λ k t within is. is ∙ ap never_opened (said_at plans k ∙ ap (λ (all : List (Planned J S)). supervisor_in (slice_get all k)) same))
+
+  -- the same of a report that is there too where a mismatch was found
+  pub have_begun_in : (plans : List (TablePlan J S)) (root : Tree J S) (closed : Result (Report J S) (CloseFault J S (Unit {0})))
+      → map seen_in_tree plans ≡ numbered 0 (draft.plans_of root)
+      → IfSome (report_in closed) (λ report. HaveBegun (opened.plans_of plans) report.tables.items) → IfSome (report_in closed) (λ report. HaveBegun (supervisors_of root) report.tables.items)
+  have_begun_in plans root closed same =
+      elim (report_in closed) as (λ there. IfSome there (λ (report : Report J S). HaveBegun (opened.plans_of plans) report.tables.items) → IfSome there (λ report. HaveBegun (supervisors_of root) report.tables.items))
+      [ Some report ↦ (λ begun. have_begun plans root report.tables.items same begun) | None ↦ (λ none. tt) ]
+
+  abbrev Enough : Planned J S → Type 0
+  Enough plan = Suffice (length plan.bodies) plan.supervisor
+
+  enough : (plans : List (drawn.TablePlan J S)) → All HasAllBodies plans → AllAt (λ _ plan. Enough plan) (map seen plans)
+  enough [] all k = tt
+  enough (plan ∷ plans) all zero = is_enough (is_simple plan.supervisor.flags.strategy) plan.supervisor.specs (length plan.bodies.items) (all 0 plan (omega arith))
+  enough (plan ∷ plans) all (suc k) = enough plans (λ j d within. all (suc j) d (omega (arith, within))) k
+
+  -- plans that say the same have their bodies too
+  pub have_bodies : (plans : List (TablePlan J S)) (of : List (drawn.TablePlan J S)) → map seen_in_tree plans ≡ map seen of → All HasAllBodies of → HaveBodies plans
+  have_bodies plans of same all = map_at seen_in_tree (λ _ plan. Enough plan) plans (subst (AllAt (λ _ plan. Enough plan)) (sym same) (enough of all))
+
+  -- where each plan has its bodies, none lacks one
+  pub none_bare : (plans : List (TablePlan J S)) (why : RunFault J S) → HaveBodies plans → IsRunOpenFault plans why → IsRunNoneBare why
+  none_bare plans (run.Open open_fault.OutOfMemory) all fault = tt
+  none_bare plans (run.Open (open_fault.NoBody table)) all fault =
+      elim (slice_get plans table) as (λ plan. IfSome plan HasBodies → MatchOption plan ⊥ LacksBody → ⊥) [ Some plan ↦ (λ has lacks. omega (arith, has, lacks)) | None ↦ (λ has lacks. lacks) ] (all table) fault
+  none_bare plans (run.Close why) all fault = tt

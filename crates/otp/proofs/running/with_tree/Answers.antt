@@ -1,0 +1,8 @@
+use Rattle.otp.proofs.Begun.{none_bare}
+use Rattle.otp_tree.specs.declared.whole.RunFault.TheVariants as run
+use Rattle.otp.proofs.running.with_tree.Goals as goal
+
+pub returns-in-Err-with_system-clause-back : goal.returns-in-Err-with_system-clause-back
+returns-in-Err-with_system-clause-back g c =
+    let made = c.in-Ok.ensures {u = tt} in
+    (made.lawful, (tt, (tt, none_bare c.in-Ok.plans.items (run.Open c.in-Err-with_system.why) made.bodies (c.in-Err-with_system.ensures {u = tt}).fault)))

@@ -1,0 +1,164 @@
+//! What a hand looks at of what waits in it: each that waits has its turn to be looked at.
+ghost use Rattle.std.specs.Prelude.{◌≡◌};
+
+use crate::fixtures::{MEMORY, got, same};
+use otp_hand::looks::Looks;
+use otp_hand::{Around, Rested, Resting};
+use otp_job::{Body, Process};
+use otp_signals::{OpenWords, Signal, Viewer, Words, WordsNaming};
+use otp_wake::{Bells, Post};
+use std::alloc::Global;
+use std::marker::Brand;
+use std::process::Abort;
+use std::sync::Arc;
+
+// How many wait, and how many slots the words have.
+const COUNT: usize = 64;
+
+// So many that began to wait last are looked at in each turn, where one of all may have been told something.
+const NEWEST: usize = 8;
+
+// A process; what it runs is never asked.
+fn process_in(rt: &impl Abort, alloc: Global, slot: usize, number: u64) -> Process<u64, u64> {
+    let process = Process::new(alloc, number, slot, 0, Body::Worker(0));
+    got(rt, MEMORY, process)
+}
+
+// Processes that wait, and what they are looked at by.
+#[derive(Drop)]
+struct Watch<N: WordsNaming> {
+    words: Words<N>,
+    viewer: Viewer<N>,
+    post: Arc<Post>,
+    around: Around,
+    waiting: Vec<Process<u64, u64>>,
+}
+
+// A post for so many slots, which no thread waits at.
+fn post_of(rt: &impl Abort, alloc: Global) -> Arc<Post> {
+    let bells = got(rt, MEMORY, Arc::new(alloc, Bells::new()));
+    let post = got(rt, MEMORY, Post::open(alloc, COUNT, &bells));
+    drop(bells);
+    got(rt, MEMORY, Arc::new(alloc, post))
+}
+
+// Those that wait, each with the slot of its place. For none of them was a signal posted.
+fn all_waiting(rt: &impl Abort, alloc: Global) -> Vec<Process<u64, u64>> {
+    let mut waiting = Vec::new(alloc);
+    for slot in 0..COUNT {
+        let process = process_in(rt, alloc, slot, 1);
+        got(rt, MEMORY, waiting.push(process));
+    }
+    waiting
+}
+
+impl<N: WordsNaming> Watch<N> {
+    // The one at this place, which alone was told something, is found with so many looks at the most.
+    fn finds(&mut self, rt: &impl Abort, looks: &mut Looks, place: usize, most: usize) {
+        for _ in 0..most {
+            let found = self.find(looks);
+            if found.is_some() {
+                same(rt, "what was told something", found, Some(place));
+                return;
+            }
+        }
+        panic!(rt; "not looked at: the one at {place}")
+    }
+
+    fn find(&mut self, looks: &mut Looks) -> Option<usize> {
+        let waiting = self.waiting.as_slice();
+        looks.find_told(&self.words, &mut self.viewer, &self.around, waiting)
+    }
+
+    // Each is woken in turn. It is found with one look at all; by a notice, with as many looks as come to all, the newest with the
+    // first; and without one when the looks, four in a turn, have gone round.
+    fn finds_each(&mut self, rt: &impl Abort) {
+        let mut quiet = Looks::new(4);
+        for place in 0..COUNT {
+            self.post.wake(place);
+            let mut looks = Looks::new(0);
+            looks.look_at_all();
+            self.finds(rt, &mut looks, place, 1);
+            looks.notice(COUNT);
+            let is_new = place.saturating_add(NEWEST) >= COUNT;
+            self.finds(rt, &mut looks, place, if is_new { 1 } else { 3 });
+            self.finds(rt, &mut quiet, place, COUNT / 4);
+            self.post.take(place);
+        }
+    }
+
+    // One more waits, for which a signal was posted at the last slot.
+    fn finds_told(&mut self, rt: &impl Abort, alloc: Global) {
+        let told = process_in(rt, alloc, COUNT - 1, 0);
+        got(rt, MEMORY, self.waiting.push(told));
+        let mut looks = Looks::new(0);
+        looks.look_at_all();
+        self.finds(rt, &mut looks, COUNT, 1);
+    }
+}
+
+fn looks_in<N: WordsNaming, R: Abort>(rt: &R, alloc: Global, opened: OpenWords)
+    requires name { opened.words ≡ N.words }
+    requires slots { opened.slots ≡ 64 }
+{
+    let (words, mut owner) = opened.named::<N>();
+    let viewer = words.viewer(&mut owner);
+    words.post(&mut owner, 63, 0, Signal::Shutdown);
+    drop(owner);
+    let post = post_of(rt, alloc);
+    let mut around = Around::new();
+    got(rt, MEMORY, around.open_post(&post));
+    let mut watch = Watch {
+        words,
+        viewer,
+        post,
+        around,
+        waiting: all_waiting(rt, alloc),
+    };
+    watch.finds_each(rt);
+    watch.finds_told(rt, alloc);
+    drop(watch);
+}
+
+#[test]
+fn each_that_waits_is_looked_at(rt: HostRuntime) {
+    let opened = got(&rt, MEMORY, OpenWords::open(rt.alloc(), 64));
+    looks_in::<Brand, _>(&rt, rt.alloc(), opened);
+}
+
+// Of five supervisors that rest two are looked at in a turn, and after the last the first again. They rest until the least of
+// their deadlines.
+#[test]
+fn supervisors_that_rest_are_looked_at_in_turn(rt: HostRuntime) {
+    let mut resting: Resting<u64, u64> = Resting::new(rt.alloc());
+    for (table, due) in [None, Some(7), Some(5), None, Some(9)].iter().enumerate() {
+        let rested = Rested {
+            process: process_in(&rt, rt.alloc(), table, 1),
+            table,
+            told: Signal::None,
+            due: *due,
+        };
+        assert!(rt; resting.keep(rested).is_none());
+    }
+    for places in [(0, 2), (2, 4), (4, 5), (0, 2)] {
+        same(&rt, "the places", resting.next_places(), places);
+    }
+    same(&rt, "the deadline", resting.next_due(), Some(5));
+    drop(resting);
+}
+
+// After a search in vain so many are spared, but for a deadline that has come, and then there is one again.
+#[test]
+fn a_search_in_vain_is_made_again_in_time(rt: HostRuntime) {
+    let mut around = Around::new();
+    around.tried_in_vain();
+    let mut spared: u64 = 0;
+    while !around.is_worth_a_search(Some(7), 6) && spared < 1_000 {
+        spared = spared.saturating_add(1);
+    }
+    same(&rt, "how many were spared", spared, 256);
+    around.tried_in_vain();
+    assert!(rt; around.is_worth_a_search(Some(7), 7));
+    assert!(rt; !around.is_worth_a_search(None, 7));
+    drop(around);
+}
