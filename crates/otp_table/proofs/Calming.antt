@@ -39,15 +39,15 @@ pub got : (rows : List Row) (p : ℕ) (row : Row) → slice_get rows p ≡ Some 
 got rows p row e = (slice_get_within rows p row e, get_or_from_slice_get rows p row row e)
 
 calmed_same : (s : RowState) → is_restarting s ≡ false → calmed s ≡ s
-calmed_same Undefined no = refl
-calmed_same (Starting p k) no = refl
-calmed_same (Up p) no = refl
-calmed_same (Asked p t) no = refl
-calmed_same (Killed p) no = refl
-calmed_same (Restarting k) no = absurd (false≢true (sym no))
+calmed_same Undefined calm = refl
+calmed_same (Starting p k) calm = refl
+calmed_same (Up p) calm = refl
+calmed_same (Asked p t) calm = refl
+calmed_same (Killed p) calm = refl
+calmed_same (Restarting k) calm = absurd (false≢true (sym calm))
 
 -- a row that awaits no retry is calm already
 pub calm_already : (rows : List Row) (p : ℕ) (row : Row) → get_or rows p row ≡ row → is_restarting row.state ≡ false → rows ≡ set rows p (calm_one row)
-calm_already rows p row at no =
+calm_already rows p row at calm =
     sym (set-get_or rows p row)
-    ∙ ap (λ (r : Row). set rows p r) (at ∙ ap (λ (s : RowState). with_state s row) (sym (calmed_same row.state no)))
+    ∙ ap (λ (r : Row). set rows p r) (at ∙ ap (λ (s : RowState). with_state s row) (sym (calmed_same row.state calm)))
