@@ -10,13 +10,13 @@ pub returns-else-is_restarting-clause-rows : goal.returns-else-is_restarting-cla
 returns-else-is_restarting-clause-rows c row e =
     let at = got c.args.self.now.rows c.args.place row e in
     let read : c.index.result.now ≡ row =
-        c.index.ensures
-        ∙ ap (λ v. get_or v.rows c.args.place c.index.result.now) c.self.view_is
-        ∙ get_or_from_slice_get c.args.self.now.rows c.args.place row c.index.result.now e in
+    c.index.ensures
+    ∙ ap (λ v. get_or v.rows c.args.place c.index.result.now) c.self.view_is
+    ∙ get_or_from_slice_get c.args.self.now.rows c.args.place row c.index.result.now e in
     calm_already c.args.self.now.rows c.args.place row at.1 (ap (λ (r : Row). is_restarting r.state) (sym read) ∙ sym c.if-is_restarting.ensures)
 
 pub returns-else-is_restarting-clause-found : goal.returns-else-is_restarting-clause-found
 returns-else-is_restarting-clause-found c =
     let read : get_or c.args.self.now.rows c.args.place c.index.result.now ≡ c.index.result.now =
-        sym (c.index.ensures ∙ ap (λ v. get_or v.rows c.args.place c.index.result.now) c.self.view_is) in
+    sym (c.index.ensures ∙ ap (λ v. get_or v.rows c.args.place c.index.result.now) c.self.view_is) in
     (c.index.result.now, slice_get-get_or c.args.self.now.rows c.args.place c.index.result.now c.requires ∙ ap (λ (row : Row). Some row) read)
