@@ -91,10 +91,15 @@ fn run_shop<R: Threads + Wait + Clock + Abort + Sync>(rt: &R, alloc: Global, tol
     let root = shop(rt, alloc, &shared);
     let paths = got(rt, MEMORY, root.paths(alloc));
     let pool = number_of(rt, alloc, &root, "pool");
+    drop(root);
     let callers = [got(rt, MEMORY, Caller::new(&shared.stop))];
     let (ran, ()) = thread::join(
         rt,
-        || run_with_callers(rt, alloc, root, 2, &shared.stop, told, &callers),
+        // Drawn again here: a draft isn't known to be one that may go to another thread, as it has drafts inside.
+        || {
+            let root = shop(rt, alloc, &shared);
+            run_with_callers(rt, alloc, root, 2, &shared.stop, told, &callers)
+        },
         || call_pool(rt, &callers[0], pool, &shared),
     );
     let report = got(rt, "the tree was not run", ran);
