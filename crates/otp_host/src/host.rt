@@ -128,9 +128,7 @@ struct System<'a> {
 
 /// The files of the system, of which nothing is known beforehand.
 impl TreeFiles for System<'_> {
-    ghost holds = { λ _ _ _. Unit {0} };
-
-    ghost keeps = { λ _ _ _. Unit {0} };
+    ghost known = { λ _. record { holds = λ _ _. Unit {0}; keeps = λ _ _. Unit {0} } };
 
     fn read(&self, name: &str) -> io::Result<Vec<u8>> {
         fs::read(self.rt, name)

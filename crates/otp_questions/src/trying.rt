@@ -1,6 +1,7 @@
 //! `try`: what would a tree do?
 
 ghost use Rattle.std.specs.Prelude.{◌≡◌};
+ghost use Rattle.otp_sim.specs.Devices.{devices};
 ghost use Rattle.otp_questions.specs.Tried.{IsTrial, ending_of_try};
 
 use otp_ending::ProgramEnd;
@@ -21,8 +22,8 @@ pub fn try_file<'a, R: Input, W: Output>(
     output: &mut W,
 ) -> ProgramEnd<'a>
     ensures { IsTrial name.now result file.now
-        (record { left = R.remaining script.old; written = W.contents output.old; read_failures = R.failures script.old; write_failures = W.failures output.old })
-        (record { left = R.remaining script.new; written = W.contents output.new; read_failures = R.failures script.new; write_failures = W.failures output.new }) }
+        (devices (R.seen script.old) (W.seen output.old))
+        (devices (R.seen script.new) (W.seen output.new)) }
 {
     let tree = match read_tree(alloc, file) {
         Ok(tree) => tree,

@@ -109,7 +109,7 @@ fn tail_of(alloc: Global, is_listed: bool, log: &Reading) -> Result<Vec<u8>, All
 
 /// Writes what stands behind a run that was played to its end.
 fn close<W: Output>(tried: TryEnd, tail: &[u8], output: &mut W) -> TryEnd
-    ensures { Closes tried result tail.now (W.contents output.old) (W.contents output.new) }
+    ensures { Closes tried result tail.now (W.seen output.old).bytes (W.seen output.new).bytes }
 {
     match tried {
         TryEnd::Done | TryEnd::ExpectationFailed(_) => match write_all(output, tail) {
@@ -130,7 +130,7 @@ fn play_log<W: Output>(
     is_listed: bool,
     output: &mut W,
 ) -> TryEnd
-    ensures { (text : List ℕ) → log_in text ≡ Ok log.now → Replays (Tried result) tree text (tells_orders Script shows) is_listed (W.contents output.old) (W.contents output.new) }
+    ensures { (text : List ℕ) → log_in text ≡ Ok log.now → Replays (Tried result) tree text (tells_orders Script shows) is_listed (W.seen output.old).bytes (W.seen output.new).bytes }
 {
     let Ok(tail) = tail_of(alloc, is_listed, log) else {
         drop(tree);
@@ -163,7 +163,7 @@ pub fn replay<W: Output>(
     is_listed: bool,
     output: &mut W,
 ) -> ReplayEnd
-    ensures { Replays result tree text.now (tells_orders Script shows) is_listed (W.contents output.old) (W.contents output.new) }
+    ensures { Replays result tree text.now (tells_orders Script shows) is_listed (W.seen output.old).bytes (W.seen output.new).bytes }
 {
     let log = match read_log(alloc, text) {
         Ok(Ok(log)) => log,

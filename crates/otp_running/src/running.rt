@@ -63,10 +63,10 @@ where
     W: Output,
     E: Output,
     ensures done { IsTreeRun shows.is_json name.now settings.counted result file.now
-        (record { bytes = W.contents output.old; failures = W.failures output.old })
-        (record { bytes = W.contents output.new; failures = W.failures output.new }) }
-    ensures first { TellsFirst (shows.is_drawn || shows.is_why) result (E.contents errors.old) (E.contents errors.new) (E.failures errors.old) (E.failures errors.new) }
-    ensures kept { E.failures errors.old ≤ E.failures errors.new }
+        (W.seen output.old)
+        (W.seen output.new) }
+    ensures first { TellsFirst (shows.is_drawn || shows.is_why) result (E.seen errors.old) (E.seen errors.new) }
+    ensures kept { (E.seen errors.old).failures ≤ (E.seen errors.new).failures }
 {
     let tree = match tree_of(alloc, file) {
         Ok(tree) => tree,
@@ -140,8 +140,8 @@ pub(crate) fn ending_of_live<'a>(live: u64) -> ProgramEnd<'a>
 
 /// Tells which command explains an ending, where one does: a tree that is refused is explained by `check`.
 pub fn explain<E: Output>(errors: &mut E, name: &str, ending: ProgramEnd<'_>)
-    ensures first { (drawn : Bool) → TellsFirst drawn ending.entry (E.contents errors.old) (E.contents errors.new) (E.failures errors.old) (E.failures errors.new) }
-    ensures kept { E.failures errors.old ≤ E.failures errors.new }
+    ensures first { (drawn : Bool) → TellsFirst drawn ending.entry (E.seen errors.old) (E.seen errors.new) }
+    ensures kept { (E.seen errors.old).failures ≤ (E.seen errors.new).failures }
 {
     // Where nothing can be told, the ending alone says it.
     match ending {
@@ -164,8 +164,8 @@ pub(crate) fn refuse_run<'a, E: Output>(
     fault: FileRunFault,
 ) -> ProgramEnd<'a>
     ensures ending { result ≡ ending_of_run fault }
-    ensures first { (drawn : Bool) → TellsFirst drawn result (E.contents errors.old) (E.contents errors.new) (E.failures errors.old) (E.failures errors.new) }
-    ensures kept { E.failures errors.old ≤ E.failures errors.new }
+    ensures first { (drawn : Bool) → TellsFirst drawn result (E.seen errors.old) (E.seen errors.new) }
+    ensures kept { (E.seen errors.old).failures ≤ (E.seen errors.new).failures }
 {
     match fault {
         FileRunFault::UnknownStart(start) => {
@@ -182,8 +182,8 @@ pub(crate) fn refuse_run<'a, E: Output>(
 
 /// Tells which starts of a file are unfit, and what to write. Where there is no memory for it, nothing is told.
 fn tell_unfit<E: Output>(alloc: Global, errors: &mut E, name: &str, file: &[u8])
-    ensures told { (text : List ℕ) × IsTold text (E.contents errors.old) (E.contents errors.new) (E.failures errors.old) (E.failures errors.new) }
-    ensures kept { E.failures errors.old ≤ E.failures errors.new }
+    ensures told { (text : List ℕ) × IsTold text (E.seen errors.old) (E.seen errors.new) }
+    ensures kept { (E.seen errors.old).failures ≤ (E.seen errors.new).failures }
 {
     let Ok(text) = text_of_unfit(alloc, name, file) else {
         return;

@@ -89,10 +89,10 @@ where
     W: Output,
     E: Output,
     ensures done { IsTreeServed shows.is_json name.now result file.now
-        (record { bytes = W.contents output.old; failures = W.failures output.old })
-        (record { bytes = W.contents output.new; failures = W.failures output.new }) }
-    ensures first { TellsFirst (shows.is_drawn || shows.is_why) result (E.contents errors.old) (E.contents errors.new) (E.failures errors.old) (E.failures errors.new) }
-    ensures kept { E.failures errors.old ≤ E.failures errors.new }
+        (W.seen output.old)
+        (W.seen output.new) }
+    ensures first { TellsFirst (shows.is_drawn || shows.is_why) result (E.seen errors.old) (E.seen errors.new) }
+    ensures kept { (E.seen errors.old).failures ≤ (E.seen errors.new).failures }
 {
     let tree = match tree_of(alloc, file) {
         Ok(tree) => tree,

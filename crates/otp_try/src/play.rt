@@ -204,7 +204,7 @@ pub fn try_tree<R: Input, W: Output>(
     input: &mut R,
     output: &mut W,
 ) -> TryEnd
-    ensures { Tries result tree (tells_orders writer shows) (W.contents output.old) (W.contents output.new) }
+    ensures { Tries result tree (tells_orders writer shows) (W.seen output.old).bytes (W.seen output.new).bytes }
 {
     let settings = Settings {
         writer,

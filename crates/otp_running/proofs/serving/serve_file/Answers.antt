@@ -22,7 +22,7 @@ returns-in-Ok-write_all-clause-done g c =
               plain
               (subst (λ (tables : List TableReport). IsSaid c.args.shows.is_json c.args.name.now c.args.file.now tables c.in-Ok-serve_tree.report.live c.serve_tree.new.out.items c.in-Ok-say.text.items)
               c.as_slice-tables.ensures.value (c.in-Ok-say.ensures {u = tt})),
-          subst (λ (l : List ℕ). Appends (g.W.Output.contents c.args.output.now) (g.W.Output.contents c.write_all.new.output) l)
+          subst (λ (l : List ℕ). Appends (g.W.Output.seen c.args.output.now).bytes (g.W.Output.seen c.write_all.new.output).bytes l)
               c.as_slice.ensures.value (c.in-Ok-write_all.ensures {u = tt}).ok,
         ),
       ),
