@@ -13,12 +13,11 @@ use crate::console::console;
 use crate::using::use_named;
 use clap::Error;
 use otp_ending::{ProgramEnd, TreeFiles, Unread, read_run_file, read_small, tell};
-use otp_jobs::Settings;
 use otp_live::Watch;
-use otp_running::{Pool, explain, run_file, serve_file};
+use otp_running::{Pool, RunAs, ServeAs, explain, run_file, serve_file};
 use otp_sim::{Failed, Input, Output, write_all};
 use otp_tree::Gate;
-use otp_words::{Checking, Command, RunShows, Serving, WordsFault, read_words};
+use otp_words::{Checking, Command, WordsFault, read_words};
 use std::alloc::Global;
 use std::sync::Wait;
 use std::thread::Threads;
@@ -30,7 +29,6 @@ use std::time;
 /// happens to each process of a tree that is served is told the pool's watch alone, and that where `--log` asks for it.
 pub fn run<H, G, L, F, R, W, E>(
     pool: &Pool<'_, H, G, L>,
-    alloc: Global,
     words: Result<Vec<String>, WordsFault>,
     files: &F,
     input: &mut R,
@@ -50,14 +48,13 @@ where
         (devices (R.seen input.new) (W.seen output.new))
         (E.seen errors.old) (E.seen errors.new) }
 {
-    let ending = obey(pool, alloc, &words, files, input, output, errors);
+    let ending = obey(pool, &words, files, input, output, errors);
     tell(errors, ending, files.unwritten())
 }
 
 /// Does what the words ask for, the program's own name first, or answers them.
 fn obey<'a, H, G, L, F, R, W, E>(
     pool: &Pool<'_, H, G, L>,
-    alloc: Global,
     words: &'a Result<Vec<String>, WordsFault>,
     files: &F,
     input: &mut R,
@@ -80,18 +77,17 @@ where
 {
     let words = match words {
         Ok(words) => words,
-        Err(fault) => return answer(alloc, fault, output, errors),
+        Err(fault) => return answer(pool.alloc, fault, output, errors),
     };
-    match read_words(alloc, words) {
-        Ok(command) => do_command(pool, alloc, command, files, input, output, errors),
-        Err(fault) => answer(alloc, &fault, output, errors),
+    match read_words(pool.alloc, words) {
+        Ok(command) => do_command(pool, command, files, input, output, errors),
+        Err(fault) => answer(pool.alloc, &fault, output, errors),
     }
 }
 
 /// Does what a command asks for.
 pub fn do_command<'a, H, G, L, F, R, W, E>(
     pool: &Pool<'_, H, G, L>,
-    alloc: Global,
     command: Command<'a>,
     files: &F,
     input: &mut R,
@@ -112,6 +108,7 @@ where
     ensures first { TellsFirst (draws command.entry) result (E.seen errors.old) (E.seen errors.new) }
     ensures kept { (E.seen errors.old).failures ≤ (E.seen errors.new).failures }
 {
+    let alloc = pool.alloc;
     match command {
         Command::Sim { file } => simulate(alloc, files, file, input, output, errors),
         Command::Check {
@@ -122,15 +119,23 @@ where
             file,
             settings,
             shows,
-        } => run_named(pool, alloc, files, file, settings, shows, output, errors),
+        } => {
+            let how = RunAs { settings, shows };
+            run_named(pool, files, file, how, output, errors)
+        },
         Command::Serve {
             file,
             settings,
             serving,
             shows,
-        } => serve_named(
-            pool, alloc, files, file, settings, serving, shows, output, errors,
-        ),
+        } => {
+            let how = ServeAs {
+                settings,
+                serving,
+                shows,
+            };
+            serve_named(pool, files, file, how, output, errors)
+        }
         Command::Use { file, usage } => use_named(alloc, files, file, usage, input, output, errors),
     }
 }
@@ -163,11 +168,9 @@ fn simulate<'a, F: TreeFiles, R: Input, W: Output, E: Output>(
 /// Runs the tree of a file on threads.
 fn run_named<'a, H, G, L, F, W, E>(
     pool: &Pool<'_, H, G, L>,
-    alloc: Global,
     files: &F,
     name: &'a str,
-    settings: Settings,
-    shows: RunShows,
+    how: RunAs,
     output: &mut W,
     errors: &mut E,
 ) -> ProgramEnd<'a>
@@ -177,14 +180,14 @@ where
     F: TreeFiles,
     W: Output,
     E: Output,
-    ensures done { RunsTree ((F.known files.now).holds name.now) shows.is_json name.now settings.counted result
+    ensures done { RunsTree ((F.known files.now).holds name.now) how.shows.is_json name.now how.settings.counted result
         (W.seen output.old)
         (W.seen output.new) }
-    ensures first { TellsFirst (shows.is_drawn || shows.is_why) result (E.seen errors.old) (E.seen errors.new) }
+    ensures first { TellsFirst (how.shows.is_drawn || how.shows.is_why) result (E.seen errors.old) (E.seen errors.new) }
     ensures kept { (E.seen errors.old).failures ≤ (E.seen errors.new).failures }
 {
     match read_run_file(files, name, errors) {
-        Ok(file) => run_file(pool, alloc, name, &file, settings, shows, output, errors),
+        Ok(file) => run_file(pool, name, &file, how, output, errors),
         Err(ending) => ending,
     }
 }
@@ -192,12 +195,9 @@ where
 /// Serves the tree of a file on threads for a time.
 fn serve_named<'a, H, G, L, F, W, E>(
     pool: &Pool<'_, H, G, L>,
-    alloc: Global,
     files: &F,
     name: &'a str,
-    settings: Settings,
-    serving: Serving,
-    shows: RunShows,
+    how: ServeAs,
     output: &mut W,
     errors: &mut E,
 ) -> ProgramEnd<'a>
@@ -207,16 +207,14 @@ where
     F: TreeFiles,
     W: Output,
     E: Output,
-    ensures done { ServesTree ((F.known files.now).holds name.now) shows.is_json name.now result
+    ensures done { ServesTree ((F.known files.now).holds name.now) how.shows.is_json name.now result
         (W.seen output.old)
         (W.seen output.new) }
-    ensures first { TellsFirst (shows.is_drawn || shows.is_why) result (E.seen errors.old) (E.seen errors.new) }
+    ensures first { TellsFirst (how.shows.is_drawn || how.shows.is_why) result (E.seen errors.old) (E.seen errors.new) }
     ensures kept { (E.seen errors.old).failures ≤ (E.seen errors.new).failures }
 {
     match read_run_file(files, name, errors) {
-        Ok(file) => serve_file(
-            pool, alloc, name, &file, settings, serving, shows, output, errors,
-        ),
+        Ok(file) => serve_file(pool, name, &file, how, output, errors),
         Err(ending) => ending,
     }
 }

@@ -12,10 +12,12 @@ use crate::pages::{put_limits, put_run, put_tree};
 use otp_ending::{ProgramEnd, TreeFiles, read_file, read_log, read_tree_file};
 use otp_folds::{Grain, Pick, Progress, Unseen};
 use otp_questions::{
-    compare_files, draw_file, limit_file, replay_file, stop_file, suggest_file, tell_run, try_file,
+    Asking, Log, compare_files, draw_file, limit_file, replay_file, stop_file, suggest_file,
+    tell_run, try_file,
 };
+use otp_replay::Replaying;
 use otp_sim::{Counted, Input, Output};
-use otp_try::{Clock, Shows, Writer};
+use otp_try::{Clock, Playing, Shows, Writer};
 use otp_words::{Form, TrialShows, Usage};
 use std::alloc::Global;
 
@@ -72,7 +74,14 @@ fn use_file<'a, F: TreeFiles, R: Input, W: Output, E: Output>(
         Usage::Stop => stop_file(alloc, name, file, output),
         Usage::Limit { pick, grain, form } => match form {
             Form::Text => limit_seen(alloc, files, name, file, pick, grain, output),
-            Form::Object => limit_file(alloc, name, file, pick, grain, true, &Unseen, output),
+            Form::Object => {
+                let asking = Asking {
+                    pick,
+                    grain,
+                    is_json: true,
+                };
+                limit_file(alloc, name, file, asking, &Unseen, output)
+            },
             Form::Page(page) => put_limits(alloc, files, name, file, pick, grain, page),
         },
         Usage::Suggest { child, every } => suggest_file(alloc, name, file, child, every, output),
@@ -114,7 +123,12 @@ fn limit_seen<'a, F: TreeFiles, W: Output>(
         (W.seen output.new) }
 {
     let seen = Seen { files };
-    limit_file(alloc, name, file, pick, grain, false, &seen, output)
+    let asking = Asking {
+        pick,
+        grain,
+        is_json: false,
+    };
+    limit_file(alloc, name, file, asking, &seen, output)
 }
 
 /// Tries the tree of a file by the lines of a script, and writes the run in this form.
@@ -221,19 +235,22 @@ fn try_by<'a, F: TreeFiles, R: Input, W: Output, E: Output>(
 {
     let seen = shows_of(files, shows);
     let Some(script) = script else {
-        return try_file(
-            alloc,
-            name,
-            file,
-            writer_at(files, writer),
-            seen,
-            shows.clock,
-            input,
-            output,
-        );
+        let playing = Playing {
+            writer: writer_at(files, writer),
+            shows: seen,
+            clock: shows.clock,
+        };
+        return try_file(alloc, name, file, playing, input, output);
     };
     match read_file(files, script, errors) {
-        Ok(lines) => try_lines(alloc, name, file, writer, seen, shows.clock, &lines, output),
+        Ok(lines) => {
+            let playing = Playing {
+                writer,
+                shows: seen,
+                clock: shows.clock,
+            };
+            try_lines(alloc, name, file, playing, &lines, output)
+        }
         Err(ending) => ending,
     }
 }
@@ -266,9 +283,7 @@ fn try_lines<'a, W: Output>(
     alloc: Global,
     name: &'a str,
     file: &[u8],
-    writer: Writer,
-    shows: Shows,
-    clock: Clock,
+    playing: Playing,
     lines: &[u8],
     output: &mut W,
 ) -> ProgramEnd<'a>
@@ -277,7 +292,7 @@ fn try_lines<'a, W: Output>(
         (devices unread (W.seen output.new)) }
 {
     let mut script = Counted::new(lines);
-    try_file(alloc, name, file, writer, shows, clock, &mut script, output)
+    try_file(alloc, name, file, playing, &mut script, output)
 }
 
 /// Says what differs between the tree of a file and that of another.
@@ -321,17 +336,18 @@ fn replay_log<'a, F: TreeFiles, W: Output, E: Output>(
     ensures kept { (E.seen errors.old).failures ≤ (E.seen errors.new).failures }
 {
     match read_log(files, log, errors) {
-        Ok(text) => replay_file(
-            alloc,
-            name,
-            file,
-            log,
-            &text,
-            shows_of(files, shows),
-            shows.clock,
-            is_listed,
-            output,
-        ),
+        Ok(text) => {
+            let read = Log {
+                name: log,
+                text: &text,
+            };
+            let replaying = Replaying {
+                shows: shows_of(files, shows),
+                clock: shows.clock,
+                is_listed,
+            };
+            replay_file(alloc, name, file, read, replaying, output)
+        }
         Err(ending) => ending,
     }
 }

@@ -32,12 +32,12 @@ pub fn otp<H: Threads + Wait + Clock + Sync>(rt: &HostRuntime, threads: &H) -> E
     let mut errors = Counted::new(rt.stderr());
     let pool = Pool {
         rt: threads,
+        alloc: rt.alloc(),
         gate: &Screen::start(rt),
         watch: &LogLines::to(rt, rt.alloc()),
     };
     let status = run(
         &pool,
-        rt.alloc(),
         words_of(rt),
         &system,
         &mut input,

@@ -7,7 +7,7 @@ ghost use Rattle.otp_questions.specs.Tried.{IsTrial, ending_of_try};
 use otp_ending::ProgramEnd;
 use otp_file::read_tree;
 use otp_sim::{Input, Output};
-use otp_try::{Clock, Shows, TryEnd, Writer, try_tree};
+use otp_try::{Playing, TryEnd, try_tree};
 use std::alloc::Global;
 
 /// Reads the tree of a file, and plays the lines of a script on its supervisor.
@@ -15,9 +15,7 @@ pub fn try_file<'a, R: Input, W: Output>(
     alloc: Global,
     name: &'a str,
     file: &[u8],
-    writer: Writer,
-    shows: Shows,
-    clock: Clock,
+    playing: Playing,
     script: &mut R,
     output: &mut W,
 ) -> ProgramEnd<'a>
@@ -29,7 +27,7 @@ pub fn try_file<'a, R: Input, W: Output>(
         Ok(tree) => tree,
         Err(fault) => return ProgramEnd::of_no_tree(fault, name),
     };
-    end_of_try(try_tree(alloc, tree, writer, shows, clock, script, output))
+    end_of_try(try_tree(alloc, tree, playing, script, output))
 }
 
 /// The end of a trial.

@@ -13,9 +13,9 @@ pub returns-in-Tried : goal.returns-in-Tried
 returns-in-Tried g c =
     let old : Written = g.W.Output.seen c.args.output.now in
     let new : Written = g.W.Output.seen c.replay.new.output in
-    let tells = tells_orders Script c.args.shows in
+    let tells = tells_orders Script c.args.replaying.shows in
     let replayed =
-    subst (λ (end : ReplayEnd). Replays end c.in-Ok.tree c.args.text.now tells c.args.is_listed old.bytes new.bytes) c.in-Tried.is c.replay.ensures in
-    subst (λ (e : ProgramEnd). IsReplay c.args.log c.args.text.now c.args.is_listed c.args.name.now e c.args.file.now old new) (sym c.end_of_try.ensures)
-    (is_replay c.args.log c.args.text.now c.args.is_listed c.args.name.now c.args.file.now old new c.in-Tried.end
+    subst (λ (end : ReplayEnd). Replays end c.in-Ok.tree c.args.log.text.now tells c.args.replaying.is_listed old.bytes new.bytes) c.in-Tried.is c.replay.ensures in
+    subst (λ (e : ProgramEnd). IsReplay c.args.log.name c.args.log.text.now c.args.replaying.is_listed c.args.name.now e c.args.file.now old new) (sym c.end_of_try.ensures)
+    (is_replay c.args.log.name c.args.log.text.now c.args.replaying.is_listed c.args.name.now c.args.file.now old new c.in-Tried.end
     (c.in-Ok.tree, ((c.in-Ok.ensures {u = tt}).tree, (tells, replayed))))
