@@ -37,7 +37,7 @@ pub struct Pool<'a, H, G, L> {
 }
 
 /// How a tree is run, and what is told of it.
-#[derive(Clone, Copy)]
+#[derive(Drop)]
 pub struct RunAs {
     pub settings: Settings,
     pub shows: RunShows,

@@ -71,7 +71,7 @@ where
 }
 
 /// How a tree is served, for how long, and what is told of it.
-#[derive(Clone, Copy)]
+#[derive(Drop)]
 pub struct ServeAs {
     pub settings: Settings,
     pub serving: Serving,
