@@ -142,10 +142,11 @@ impl Seat {
         let mut numbers = Counter { last };
         self.is_whole = false;
         self.core.step_with(time, &kind, &mut numbers);
+        let starts = self.starts.as_slice();
         let scene = Scene {
             time,
             path: self.path.as_slice(),
-            starts: self.starts.as_slice(),
+            starts,
             tells: self.tells,
         };
         tell(&scene, &self.core, printer, out)?;
