@@ -133,20 +133,20 @@ fn play_log<W: Output>(
     alloc: Global,
     tree: TreeSpec,
     log: &Reading,
-    replaying: Replaying,
+    how: Replaying,
     output: &mut W,
 ) -> TryEnd
-    ensures { (text : List ℕ) → log_in text ≡ Ok log.now → Replays (Tried result) tree text (tells_orders Script replaying.shows) replaying.is_listed (W.seen output.old).bytes (W.seen output.new).bytes }
+    ensures { (text : List ℕ) → log_in text ≡ Ok log.now → Replays (Tried result) tree text (tells_orders Script how.shows) how.is_listed (W.seen output.old).bytes (W.seen output.new).bytes }
 {
-    let Ok(tail) = tail_of(alloc, replaying.is_listed, log) else {
+    let Ok(tail) = tail_of(alloc, how.is_listed, log) else {
         drop(tree);
         return TryEnd::OutOfMemory;
     };
     let mut script = Counted::new(log.script());
     let playing = Playing {
         writer: Writer::Script,
-        shows: replaying.shows,
-        clock: replaying.clock,
+        shows: how.shows,
+        clock: how.clock,
     };
     let tried = try_tree(alloc, tree, playing, &mut script, output);
     close(tried, tail.as_slice(), output)
@@ -161,10 +161,10 @@ pub fn replay<W: Output>(
     alloc: Global,
     tree: TreeSpec,
     text: &[u8],
-    replaying: Replaying,
+    how: Replaying,
     output: &mut W,
 ) -> ReplayEnd
-    ensures { Replays result tree text.now (tells_orders Script replaying.shows) replaying.is_listed (W.seen output.old).bytes (W.seen output.new).bytes }
+    ensures { Replays result tree text.now (tells_orders Script how.shows) how.is_listed (W.seen output.old).bytes (W.seen output.new).bytes }
 {
     let log = match read_log(alloc, text) {
         Ok(Ok(log)) => log,
@@ -177,7 +177,7 @@ pub fn replay<W: Output>(
             return ReplayEnd::Tried(TryEnd::OutOfMemory);
         }
     };
-    let end = play_log(alloc, tree, &log, replaying, output);
+    let end = play_log(alloc, tree, &log, how, output);
     drop(log);
     ReplayEnd::Tried(end)
 }
