@@ -12,7 +12,7 @@ use std::thread;
 use std::thread::Threads;
 use std::time::Clock;
 
-type Draft = TreeDraft<Guest>;
+pub type Draft = TreeDraft<Guest>;
 
 type Calling = Caller<Guest, BoxedSubsystem>;
 
@@ -40,18 +40,18 @@ impl Watch for Told {
     }
 }
 
-fn add(rt: &impl Abort, draft: &mut Draft, id: &str, shared: &Arc<Shared>) {
-    let job = make_guest(rt, Kind::Steady, shared);
+pub fn add(rt: &impl Abort, draft: &mut Draft, id: &str, kind: Kind, shared: &Arc<Shared>) {
+    let job = make_guest(rt, kind, shared);
     got(rt, MEMORY, draft.add_worker(id, job));
 }
 
 // A worker, and a pool of two below it.
-fn shop(rt: &impl Abort, alloc: Global, shared: &Arc<Shared>) -> Draft {
+pub fn shop(rt: &impl Abort, alloc: Global, shared: &Arc<Shared>) -> Draft {
     let mut pool = Draft::new(alloc, SupFlags::default());
-    add(rt, &mut pool, "a", shared);
-    add(rt, &mut pool, "b", shared);
+    add(rt, &mut pool, "a", Kind::Steady, shared);
+    add(rt, &mut pool, "b", Kind::Steady, shared);
     let mut root = Draft::new(alloc, SupFlags::default());
-    add(rt, &mut root, "db", shared);
+    add(rt, &mut root, "db", Kind::Steady, shared);
     got(rt, MEMORY, root.add_supervisor("pool", pool));
     root
 }
@@ -78,7 +78,7 @@ fn call_pool<R: Wait + Abort>(rt: &R, caller: &Calling, pool: usize, shared: &Sh
 }
 
 // How many starts the supervisor with this number had, and how many processes are left.
-fn starts_in(report: &Report<Guest, BoxedSubsystem>, number: usize) -> (Option<u64>, u64) {
+pub fn starts_in(report: &Report<Guest, BoxedSubsystem>, number: usize) -> (Option<u64>, u64) {
     let starts = match report.tables.as_slice().get(number) {
         Some(table) => Some(table.starts()),
         None => None,

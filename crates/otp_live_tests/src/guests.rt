@@ -32,6 +32,8 @@ pub enum Kind {
     Stops(u64),
     /// Works on, and heeds it.
     Busy,
+    /// Works on until two such jobs have a turn at the same time, or until so many turns were made, and raises the stop then.
+    Meets(u64),
 }
 
 /// What the jobs of a tree and its test share.
@@ -40,6 +42,9 @@ pub struct Shared {
     pub starts: AtomicU64,
     pub given: AtomicU64,
     pub seen: AtomicU64,
+    /// How many jobs that meet have a turn right now, and whether two did at the same time.
+    pub inside: AtomicU64,
+    pub met: AtomicU64,
     pub waker: OnceLock<Waker>,
     pub stop: Stop,
 }
@@ -50,6 +55,8 @@ impl Shared {
             starts: AtomicU64::new(0),
             given: AtomicU64::new(0),
             seen: AtomicU64::new(0),
+            inside: AtomicU64::new(0),
+            met: AtomicU64::new(0),
             waker: OnceLock::new(),
             stop: got(rt, MEMORY, Stop::new(alloc)),
         };
@@ -60,6 +67,9 @@ impl Shared {
         self.starts.load(Ordering::SeqCst)
     }
 }
+
+/// So often a job that meets looks in each turn for another that has one.
+const LOOKS: u32 = 10_000;
 
 /// A job of a test.
 #[derive(Drop)]
@@ -86,6 +96,27 @@ impl Guest {
         if seen >= goal {
             self.shared.stop.raise();
         }
+        Turn::Wait
+    }
+
+    /// Stays in this turn for a while, until another job has one too. One thread that gave both their turns, one after the other, would
+    /// come to an end as well, and they would not meet.
+    fn meet(&self, turns: u64) -> Turn {
+        let shared = &self.shared;
+        if shared.inside.fetch_add(1, Ordering::SeqCst) > 0 {
+            shared.met.store(1, Ordering::SeqCst);
+        }
+        for _ in 0..LOOKS {
+            if shared.met.load(Ordering::SeqCst) != 0 {
+                break;
+            }
+        }
+        shared.inside.fetch_sub(1, Ordering::SeqCst);
+        let made = shared.given.fetch_add(1, Ordering::SeqCst);
+        if made < turns && shared.met.load(Ordering::SeqCst) == 0 {
+            return Turn::Again;
+        }
+        shared.stop.raise();
         Turn::Wait
     }
 }
@@ -124,6 +155,7 @@ impl Job for Guest {
             Kind::Counts(goal) => self.wait_for(&self.shared.given, goal),
             Kind::Stops(goal) => self.work_until(goal),
             Kind::Busy => Turn::Again,
+            Kind::Meets(turns) => self.meet(turns),
         }
     }
 }

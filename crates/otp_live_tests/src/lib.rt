@@ -10,6 +10,8 @@ mod guests;
 #[cfg(test)]
 mod runs;
 #[cfg(test)]
+mod served;
+#[cfg(test)]
 mod tokens;
 #[cfg(test)]
 mod wakes;

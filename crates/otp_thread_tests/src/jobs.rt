@@ -173,7 +173,10 @@ impl Job for Named {
 
     fn begin(&mut self, place: &Place<'_>) -> Started {
         match place.id {
-            Some(id) => Started::Fail(Reason::Error(Text::joined(b"", id.as_bytes()))),
+            Some(id) => match Text::new(id.as_bytes()) {
+                Some(text) => Started::Fail(Reason::Error(text)),
+                None => Started::Ignore,
+            },
             None => self.start(place.number),
         }
     }

@@ -14,16 +14,18 @@ returns-in-Ok-write_all-clause-done g c =
     (c.in-Ok.ensures {u = tt}).tree
     (c.in-Ok-serve_tree.ensures {u = tt}).runnable (
       (c.in-Ok-serve_tree.ensures {u = tt}).served,
-      (c.in-Ok-serve_tree.ensures {u = tt}).plans,
       (
-        c.in-Ok-say.text.items,
+        (c.in-Ok-serve_tree.ensures {u = tt}).plans,
         (
-          subst (λ (l : List ℕ). IsSaid c.args.how.shows.is_json c.args.name.now c.args.file.now c.in-Ok-serve_tree.report.tables.items c.in-Ok-serve_tree.report.live l c.in-Ok-say.text.items)
-              plain
-              (subst (λ (tables : List TableReport). IsSaid c.args.how.shows.is_json c.args.name.now c.args.file.now tables c.in-Ok-serve_tree.report.live c.serve_tree.new.out.items c.in-Ok-say.text.items)
-              c.as_slice-tables.ensures.value (c.in-Ok-say.ensures {u = tt})),
-          subst (λ (l : List ℕ). Appends (g.W.Output.seen c.args.output.now).bytes (g.W.Output.seen c.write_all.new.output).bytes l)
-              c.as_slice.ensures.value (c.in-Ok-write_all.ensures {u = tt}).ok,
+          c.in-Ok-say.text.items,
+          (
+            subst (λ (l : List ℕ). IsSaid c.args.how.shows.is_json c.args.name.now c.args.file.now c.in-Ok-serve_tree.report.tables.items c.in-Ok-serve_tree.report.live l c.in-Ok-say.text.items)
+                plain
+                (subst (λ (tables : List TableReport). IsSaid c.args.how.shows.is_json c.args.name.now c.args.file.now tables c.in-Ok-serve_tree.report.live c.serve_tree.new.out.items c.in-Ok-say.text.items)
+                c.as_slice-tables.ensures.value (c.in-Ok-say.ensures {u = tt})),
+            subst (λ (l : List ℕ). Appends (g.W.Output.seen c.args.output.now).bytes (g.W.Output.seen c.write_all.new.output).bytes l)
+                c.as_slice.ensures.value (c.in-Ok-write_all.ensures {u = tt}).ok,
+          ),
         ),
       ),
     )
