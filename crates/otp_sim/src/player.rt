@@ -230,7 +230,7 @@ impl Player {
     /// # Errors
     ///
     /// Where memory is refused. Then part of the text may have been appended, and the player is not used again.
-    #[tactic(auto, unfolding(crate::specs::Sim::begin_line, crate::specs::Sim::begin_form, crate::specs::Sim::take_read))]
+    #[tactic(auto, unfolding(crate::specs::Sim::begin_line, crate::specs::Sim::begin_form, crate::specs::Sim::take_read, otp_text::specs::Lines::line_without_verb))]
     pub(crate) fn play_line(&mut self, line: &[u8], out: &mut Vec<u8>) -> Result<(), AllocError>
         requires { self.old.lines + 1 < LINE_LIMIT }
         ensures ok { OnOk result (with_text out.new.items self.new ≡ begin_line line.now (with_text out.old.items self.old)) }
