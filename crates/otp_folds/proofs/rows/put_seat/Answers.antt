@@ -1,6 +1,7 @@
 use Rattle.std.proofs.Common.{◌∙◌, List, ap, subst, sym}
 use Rattle.std.specs.Prelude.{OnOk}
-use Rattle.otp_folds.specs.Groups.{groups, is_alike}
+use Rattle.otp_folds.specs.Alike.{is_alike}
+use Rattle.otp_folds.specs.Groups.{groups}
 use Rattle.otp_folds.specs.Rows.{HaveRows, PutsRanked}
 use Rattle.otp_folds.specs.declared.group.Group.{Group}
 use Rattle.otp_folds.proofs.rows.put_seat.Goals as goal
