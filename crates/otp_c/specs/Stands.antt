@@ -4,6 +4,7 @@ use Rattle.otp_driver.specs.declared.link.Link.{Link}
 use Rattle.otp_driver.specs.Driven.{Driven}
 use Rattle.otp_driver.specs.Links.{is_link_of}
 use Rattle.otp_driver.specs.Members.{Member, state_in}
+use Rattle.otp_driver.specs.declared.session.Session.{Session}
 use Rattle.otp_rules.specs.Counts.{counts_of}
 use Rattle.otp_rules.specs.Ends.{last_stamps}
 use Rattle.otp_rules.specs.declared.ending.Ending.{Ending}
@@ -106,3 +107,12 @@ SaysRow links place (Some r) status old new = (status ≡ OTP_OK) × ShowsRow li
 abbrev pub SaysChild : List Link → ℕ → ℕ → Option Member → ℕ → CChild → CChild → Type 0
 SaysChild links place index None status old new = (status ≡ OTP_NO_SUPERVISOR) × (new ≡ old)
 SaysChild links place index (Some m) status old new = SaysRow links place (slice_get (state_in m).rows index) status old new
+
+-- the same of a session's supervisor, and of a child
+abbrev pub LooksAt : ℕ → ℕ → CSupervisor → CSupervisor → Session → Type 0
+LooksAt place status old new session =
+    SaysSupervisor (slice_get session.driver.members place) (slice_get session.driver.links place) session.driver.reading status old new
+
+abbrev pub LooksAtChild : ℕ → ℕ → ℕ → CChild → CChild → Session → Type 0
+LooksAtChild place index status old new session =
+    SaysChild session.driver.links place index (slice_get session.driver.members place) status old new

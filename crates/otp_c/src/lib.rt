@@ -11,7 +11,7 @@ ghost use Rattle.otp_c.specs.Limits.{limit_of};
 ghost use Rattle.otp_c.specs.Nexts.{HandsOut, WritesNext};
 ghost use Rattle.otp_c.specs.Opens.{OpensIn, Reads, SaysOpen};
 ghost use Rattle.otp_c.specs.Shown.{ShowsSpec};
-ghost use Rattle.otp_c.specs.Stands.{SaysChild, SaysRow, SaysSupervisor};
+ghost use Rattle.otp_c.specs.Stands.{LooksAt, LooksAtChild, SaysChild, SaysRow, SaysSupervisor};
 ghost use Rattle.otp_c.specs.declared.status.TheConstants.{OTP_OK, OTP_OPEN};
 ghost use Rattle.otp_spec.specs.declared.limits.TheConstants.{MAX_TABLES};
 
@@ -347,7 +347,7 @@ pub extern "C" fn otp_look(
     supervisor: u32,
     out: &mut CSupervisor,
 ) -> u32
-    ensures says { OnTree tree.old.room.held tree.new.room.held (Reading (λ session. SaysSupervisor (slice_get session.driver.members supervisor) (slice_get session.driver.links supervisor) session.driver.reading result out.old out.new)) }
+    ensures says { OnTree tree.old.room.held tree.new.room.held (Reading (LooksAt supervisor result out.old out.new)) }
     ensures unsaid { tree.old.room.held ≡ None → out.new ≡ out.old }
     ensures closed { IsTold tree.old.room.held result }
     ensures kept { IsKept tree.old.room.held tree.new.room.held }
@@ -390,7 +390,7 @@ pub extern "C" fn otp_look_child(
     index: u32,
     out: &mut CChild,
 ) -> u32
-    ensures says { OnTree tree.old.room.held tree.new.room.held (Reading (λ session. SaysChild session.driver.links supervisor index (slice_get session.driver.members supervisor) result out.old out.new)) }
+    ensures says { OnTree tree.old.room.held tree.new.room.held (Reading (LooksAtChild supervisor index result out.old out.new)) }
     ensures unsaid { tree.old.room.held ≡ None → out.new ≡ out.old }
     ensures closed { IsTold tree.old.room.held result }
     ensures kept { IsKept tree.old.room.held tree.new.room.held }

@@ -3,9 +3,9 @@ use Rattle.std.proofs.Common.{◌≡◌, ◌<◌, ◌≤◌, ◌+◌, ◌∙◌,
 use Prim.Native.Nat.{suc}
 use Rattle.std.proofs.lemmas.List.{take_all, take_more, take-append-drop}
 use Rattle.std.proofs.Math.Seq.{drop-cons}
+use Rattle.otp_sim.specs.Devices.{Written}
 use Rattle.otp_ending.specs.declared.ending.ProgramEnd.{ProgramEnd}
 use Rattle.otp_ending.specs.declared.ending.ProgramEnd.TheVariants.{Done}
-use Rattle.otp_ending.specs.Devices.{Written}
 use Rattle.otp_ending.specs.Told.{goes_on, worse}
 use Rattle.otp_console.specs.Runs.{Checks, ChecksAll, ChecksEach}
 

@@ -4,14 +4,15 @@ use Rattle.std.specs.Io.KnownBytes.{Appends}
 use Rattle.otp_file.specs.declared.fault.TreeFault.{TreeFault}
 use Rattle.otp_file.specs.Files.{Says}
 use Rattle.otp_file.specs.Trees.{Tree}
+use Rattle.otp_sim.specs.Devices.{Devices, Written}
 use Rattle.otp_sim.specs.declared.engine.SimEnd.{SimEnd}
 use Rattle.otp_sim.specs.declared.engine.SimEnd.TheVariants as sim
-use Rattle.otp_sim.specs.Runs.{Devices, Writes}
+use Rattle.otp_sim.specs.Runs.{Writes}
 use Rattle.otp_sim.specs.Sim.{opened}
 use Rattle.otp_check.specs.Checks.{IsFirstFault}
 use Rattle.otp_jobs.specs.declared.plan.PlanFault.{PlanFault}
 use Rattle.otp_starts.specs.Unfit.{HasStarts, IsRunnable}
-use Rattle.otp_ending.specs.Devices.{HasTree, IsUnread, Written, writer_of}
+use Rattle.otp_ending.specs.Devices.{Files, HasTree, IsUnread}
 use Rattle.otp_running.specs.Running.{IsTreeRun, IsTreeServed}
 use Rattle.otp_ending.specs.Statuses.{status_of}
 use Rattle.otp_ending.specs.Told.{IsSmall, IsUnreadEnd, Tells, TellsFirst, goes_on, worse}
@@ -45,7 +46,7 @@ Simulates Holds ending old new =
 
 -- the words alone are answered: nothing is read, and only a help that was asked for is written to the output
 abbrev pub Answers : ProgramEnd → Devices → Devices → Type 0
-Answers Done old new = IsUnread old new × (text : List ℕ) × Appends old.written new.written text
+Answers Done old new = IsUnread old new × (text : List ℕ) × Appends old.output.bytes new.output.bytes text
 Answers WordsRefused old new = new ≡ old
 Answers NoCommand old new = new ≡ old
 Answers WordNotText old new = new ≡ old
@@ -54,13 +55,13 @@ Answers NotATime old new = new ≡ old
 Answers NeedsFor old new = new ≡ old
 Answers CountsTurns old new = new ≡ old
 Answers FileAsCommand old new = new ≡ old
-Answers OutputFailed old new = IsUnread old new × (old.write_failures < new.write_failures)
+Answers OutputFailed old new = IsUnread old new × (old.output.failures < new.output.failures)
 Answers OutOfMemory old new = new ≡ old
 Answers _ old new = ⊥
 
 -- a text was written, and so it ends well; or the writer failed
-abbrev pub IsWritten : ProgramEnd → ProgramEnd → ℕ → ℕ → Type 0
-IsWritten ending well failures_before failures_now = (ending ≡ well) ⊎ ((ending ≡ OutputFailed) × (failures_before < failures_now))
+abbrev pub IsWritten : ProgramEnd → ProgramEnd → Written → Written → Type 0
+IsWritten ending well old new = (ending ≡ well) ⊎ ((ending ≡ OutputFailed) × (old.failures < new.failures))
 
 -- the file says a tree; and where its starts are checked too, it can be run
 abbrev pub IsLawfulFor : Bool → List ℕ → Type 0
@@ -83,7 +84,7 @@ IsChecked starts _ file old new = ⊥
 -- the check of a file whose bytes are known to be so: it can't be read, which is written, or it was checked
 abbrev pub Checks : Bool → (List ℕ → Type 0) → ProgramEnd → Written → Written → Type 0
 Checks starts Holds ending old new =
-    IsWritten ending FileNotRead old.failures new.failures ⊎ ((ending ≡ OutOfMemory) × (new ≡ old))
+    IsWritten ending FileNotRead old new ⊎ ((ending ≡ OutOfMemory) × (new ≡ old))
     ⊎ ((file : List ℕ) × ((Holds file × IsSmall file) × IsChecked starts ending file old new))
 
 -- these files were checked, one after the other, and after each the next could be; before them it was to end so
@@ -116,15 +117,15 @@ ServesTree Holds is_json name ending old new =
     ⊎ ((file : List ℕ) × (Holds file × IsTreeServed is_json name ending file old new))
 
 -- what a command asks for was done
-abbrev pub Does : (List ℕ → List ℕ → Type 0) → (List ℕ → List ℕ → Type 0) → Command → ProgramEnd → Devices → Devices → Type 0
-Does Holds Keeps (command.Sim file) ending old new = Simulates (Holds file.now) ending old new
-Does Holds Keeps (command.Check files checking) ending old new =
-    IsUnread old new × ChecksAll checking.has_starts (λ name. Holds name.now) files.items ending (writer_of old) (writer_of new)
-Does Holds Keeps (command.Run file settings shows) ending old new =
-    IsUnread old new × RunsTree (Holds file.now) shows.is_json file.now settings.counted ending (writer_of old) (writer_of new)
-Does Holds Keeps (command.Serve file settings serving shows) ending old new =
-    IsUnread old new × ServesTree (Holds file.now) shows.is_json file.now ending (writer_of old) (writer_of new)
-Does Holds Keeps (command.Use file usage) ending old new = Uses Holds Keeps file.now usage ending old new
+abbrev pub Does : Files → Command → ProgramEnd → Devices → Devices → Type 0
+Does known (command.Sim file) ending old new = Simulates (known.holds file.now) ending old new
+Does known (command.Check files checking) ending old new =
+    IsUnread old new × ChecksAll checking.has_starts (λ name. known.holds name.now) files.items ending old.output new.output
+Does known (command.Run file settings shows) ending old new =
+    IsUnread old new × RunsTree (known.holds file.now) shows.is_json file.now settings.counted ending old.output new.output
+Does known (command.Serve file settings serving shows) ending old new =
+    IsUnread old new × ServesTree (known.holds file.now) shows.is_json file.now ending old.output new.output
+Does known (command.Use file usage) ending old new = Uses known file.now usage ending old new
 
 -- a picture of the tree that is run is told besides, or why its supervisors ended, where the command asks for it
 abbrev pub draws : Command → Bool
@@ -133,23 +134,21 @@ draws (command.Serve file settings serving shows) = shows.is_drawn || shows.is_w
 draws _ = false
 
 -- what the words ask for was done, for some command, with a picture or without; or the words alone were answered
-abbrev pub Obeys : (List ℕ → List ℕ → Type 0) → (List ℕ → List ℕ → Type 0) → Bool → ProgramEnd → Devices → Devices → Type 0
-Obeys Holds Keeps drawn ending old new =
-    ((command : Command) × ((draws command ≡ drawn) × Does Holds Keeps command ending old new)) ⊎ ((drawn ≡ false) × Answers ending old new)
+abbrev pub Obeys : Files → Bool → ProgramEnd → Devices → Devices → Type 0
+Obeys known drawn ending old new =
+    ((command : Command) × ((draws command ≡ drawn) × Does known command ending old new)) ⊎ ((drawn ≡ false) × Answers ending old new)
 
 -- what was done, and what was told before the program ends
-pub record IsObeyed (Holds Keeps : List ℕ → List ℕ → Type 0) (ending : ProgramEnd) (old new : Devices)
-    (before now : Option (List ℕ)) (failures_before failures_now : ℕ) : Type 0 where
+pub record IsObeyed (known : Files) (ending : ProgramEnd) (old new : Devices) (before now : Written) : Type 0 where
   pub drawn : Bool
-  pub done : Obeys Holds Keeps drawn ending old new
-  pub first : TellsFirst drawn ending before now failures_before failures_now
+  pub done : Obeys known drawn ending old new
+  pub first : TellsFirst drawn ending before now
 
 -- a run of the program: how it ended, its status, what it did to its input and output, and what it told
-pub record IsProgramRun (Holds Keeps : List ℕ → List ℕ → Type 0) (status : ℕ) (old new : Devices)
-    (before now : Option (List ℕ)) (failures_before failures_now : ℕ) : Type 0 where
+pub record IsProgramRun (known : Files) (status : ℕ) (old new : Devices) (before now : Written) : Type 0 where
   pub ending : ProgramEnd
   pub drawn : Bool
   pub why : Unwritten
   pub status_is : status ≡ status_of ending
-  pub done : Obeys Holds Keeps drawn ending old new
-  pub told : Tells drawn why ending before now failures_before failures_now
+  pub done : Obeys known drawn ending old new
+  pub told : Tells drawn why ending before now

@@ -1,7 +1,7 @@
 -- What was done with a tree file, by how the program ended (own).
-use Rattle.std.specs.Prelude.{◌≡◌, ◌⊎◌, ℕ, Bool, true, false, List, Option, Some, None, option_map}
+use Rattle.std.specs.Prelude.{◌≡◌, ◌⊎◌, ℕ, Bool, true, false, List, Option, Some, None}
 use Rattle.std.specs.Borrow.{Bor}
-use Rattle.otp_sim.specs.Runs.{Devices}
+use Rattle.otp_sim.specs.Devices.{Devices, Written}
 use Rattle.otp_questions.specs.Compared.{IsCompared}
 use Rattle.otp_folds.specs.declared.alike.Grain.{Grain}
 use Rattle.otp_folds.specs.declared.pick.Pick.{Pick}
@@ -12,7 +12,7 @@ use Rattle.otp_questions.specs.Said.{IsDrawn}
 use Rattle.otp_questions.specs.Stopped.{IsStopped}
 use Rattle.otp_questions.specs.Suggested.{IsSuggested}
 use Rattle.otp_questions.specs.Tried.{IsTrial}
-use Rattle.otp_ending.specs.Devices.{IsUnread, Written, writer_of}
+use Rattle.otp_ending.specs.Devices.{Files, IsUnread}
 use Rattle.otp_ending.specs.Told.{IsSmall, IsUnkept}
 use Rattle.otp_ending.specs.declared.ending.ProgramEnd.{ProgramEnd}
 use Rattle.otp_ending.specs.declared.ending.ProgramEnd.TheVariants.{FileNotRead, OutOfMemory}
@@ -22,7 +22,7 @@ use Rattle.otp_words.specs.declared.words.Usage.{Usage}
 use Rattle.otp_words.specs.declared.words.Usage.TheVariants as usage
 
 -- the script is in another file, of which nothing of the input is read: that can't be read, or the tree was tried by it
-abbrev pub IsTrialOf : List ℕ → Option (List ℕ) → ProgramEnd → List ℕ → Devices → Devices → Type 0
+abbrev pub IsTrialOf : List ℕ → Option (Bor (List ℕ)) → ProgramEnd → List ℕ → Devices → Devices → Type 0
 IsTrialOf name None ending file old new = IsTrial name ending file old new
 IsTrialOf name (Some script) ending file old new =
     ((ending ≡ FileNotRead) × (new ≡ old)) ⊎ ((ending ≡ OutOfMemory) × (new ≡ old))
@@ -59,38 +59,38 @@ IsRunPaged Keeps page name file ending =
     ⊎ IsPaged Keeps page (IsRunPage name file) (λ ending. IsNotMade name ending file) ending)
 
 -- the tree of the file of this name was tried, and the run written in this form
-abbrev pub IsTrialFor : (List ℕ → List ℕ → Type 0) → List ℕ → Option (List ℕ) → Form → ProgramEnd → List ℕ → Devices → Devices → Type 0
-IsTrialFor Keeps name script form.Text ending file old new = IsTrialOf name script ending file old new
-IsTrialFor Keeps name script form.Object ending file old new =
-    IsUnread old new × IsRead (λ ending. IsRunTold name ending file) ending (writer_of old) (writer_of new)
-IsTrialFor Keeps name script (form.Page page) ending file old new = (new ≡ old) × IsRunPaged Keeps page name file ending
+abbrev pub IsTrialFor : Files → List ℕ → Option (Bor (List ℕ)) → Form → ProgramEnd → List ℕ → Devices → Devices → Type 0
+IsTrialFor known name script form.Text ending file old new = IsTrialOf name script ending file old new
+IsTrialFor known name script form.Object ending file old new =
+    IsUnread old new × IsRead (λ ending. IsRunTold name ending file) ending old.output new.output
+IsTrialFor known name script (form.Page page) ending file old new = (new ≡ old) × IsRunPaged known.keeps page name file ending
 
 -- what crashes of the children of a tree cost was written in this form
 abbrev pub IsLimitedAs : (List ℕ → List ℕ → Type 0) → Form → Grain → Pick → List ℕ → ProgramEnd → List ℕ → Devices → Devices → Type 0
-IsLimitedAs Keeps form.Text grain pick name ending file old new = IsUnread old new × IsLimited false grain pick name ending file (writer_of old) (writer_of new)
-IsLimitedAs Keeps form.Object grain pick name ending file old new = IsUnread old new × IsLimited true grain pick name ending file (writer_of old) (writer_of new)
+IsLimitedAs Keeps form.Text grain pick name ending file old new = IsUnread old new × IsLimited false grain pick name ending file old.output new.output
+IsLimitedAs Keeps form.Object grain pick name ending file old new = IsUnread old new × IsLimited true grain pick name ending file old.output new.output
 IsLimitedAs Keeps (form.Page page) grain pick name ending file old new =
     (new ≡ old) × IsPaged Keeps page (IsLimitsPage grain pick name file) (λ ending. HasNoLimits grain pick name ending file) ending
 
 -- a tree was drawn as text, or as the page of this name
 abbrev pub IsDrawnAs : (List ℕ → List ℕ → Type 0) → Option (Bor (List ℕ)) → List ℕ → ProgramEnd → List ℕ → Devices → Devices → Type 0
-IsDrawnAs Keeps None name ending file old new = IsUnread old new × IsDrawn name ending file (writer_of old) (writer_of new)
+IsDrawnAs Keeps None name ending file old new = IsUnread old new × IsDrawn name ending file old.output new.output
 IsDrawnAs Keeps (Some page) name ending file old new =
     (new ≡ old) × IsPaged Keeps page (IsTreePage name file) (λ ending. IsNotMade name ending file) ending
 
 -- the tree file of this name was used so
-abbrev pub IsUsed : (List ℕ → List ℕ → Type 0) → (List ℕ → List ℕ → Type 0) → List ℕ → Usage → ProgramEnd → List ℕ → Devices → Devices → Type 0
-IsUsed Holds Keeps name (usage.Try script writer shows form) ending file old new = IsTrialFor Keeps name (option_map (λ script. script.now) script) form ending file old new
-IsUsed Holds Keeps name usage.Stop ending file old new = IsUnread old new × IsStopped name ending file (writer_of old) (writer_of new)
-IsUsed Holds Keeps name (usage.Draw page) ending file old new = IsDrawnAs Keeps page name ending file old new
-IsUsed Holds Keeps name (usage.Limit pick grain form) ending file old new = IsLimitedAs Keeps form grain pick name ending file old new
-IsUsed Holds Keeps name (usage.Suggest child every) ending file old new = IsUnread old new × IsSuggested child every name ending file (writer_of old) (writer_of new)
-IsUsed Holds Keeps name (usage.Compare other) ending file old new = IsUnread old new × IsComparedWith (Holds other.now) name other.now ending file (writer_of old) (writer_of new)
-IsUsed Holds Keeps name (usage.Replay log is_listed shows) ending file old new =
-    IsUnread old new × IsReplayOf (Holds log.now) log is_listed name ending file (writer_of old) (writer_of new)
+abbrev pub IsUsed : Files → List ℕ → Usage → ProgramEnd → List ℕ → Devices → Devices → Type 0
+IsUsed known name (usage.Try script writer shows form) ending file old new = IsTrialFor known name script form ending file old new
+IsUsed known name usage.Stop ending file old new = IsUnread old new × IsStopped name ending file old.output new.output
+IsUsed known name (usage.Draw page) ending file old new = IsDrawnAs known.keeps page name ending file old new
+IsUsed known name (usage.Limit pick grain form) ending file old new = IsLimitedAs known.keeps form grain pick name ending file old new
+IsUsed known name (usage.Suggest child every) ending file old new = IsUnread old new × IsSuggested child every name ending file old.output new.output
+IsUsed known name (usage.Compare other) ending file old new = IsUnread old new × IsComparedWith (known.holds other.now) name other.now ending file old.output new.output
+IsUsed known name (usage.Replay log is_listed shows) ending file old new =
+    IsUnread old new × IsReplayOf (known.holds log.now) log is_listed name ending file old.output new.output
 
 -- the same of a file of which it is known what bytes it may hold: it can't be read, or it was used
-abbrev pub Uses : (List ℕ → List ℕ → Type 0) → (List ℕ → List ℕ → Type 0) → List ℕ → Usage → ProgramEnd → Devices → Devices → Type 0
-Uses Holds Keeps name usage ending old new =
+abbrev pub Uses : Files → List ℕ → Usage → ProgramEnd → Devices → Devices → Type 0
+Uses known name usage ending old new =
     ((ending ≡ FileNotRead) × (new ≡ old)) ⊎ ((ending ≡ OutOfMemory) × (new ≡ old))
-    ⊎ ((file : List ℕ) × ((Holds name file × IsSmall file) × IsUsed Holds Keeps name usage ending file old new))
+    ⊎ ((file : List ℕ) × ((known.holds name file × IsSmall file) × IsUsed known name usage ending file old new))

@@ -24,8 +24,8 @@ pub fn check_file<'a, W: Output>(
     output: &mut W,
 ) -> ProgramEnd<'a>
     ensures { IsChecked checking.has_starts result file.now
-        (record { bytes = W.contents output.old; failures = W.failures output.old })
-        (record { bytes = W.contents output.new; failures = W.failures output.new }) }
+        (W.seen output.old)
+        (W.seen output.new) }
 {
     let Ok(findings) = check(alloc, file) else {
         return ProgramEnd::OutOfMemory;
@@ -47,8 +47,8 @@ fn check_starts<'a, W: Output>(
 ) -> ProgramEnd<'a>
     requires starts { checking.has_starts ≡ true }
     ensures { IsChecked checking.has_starts result file.now
-        (record { bytes = W.contents output.old; failures = W.failures output.old })
-        (record { bytes = W.contents output.new; failures = W.failures output.new }) }
+        (W.seen output.old)
+        (W.seen output.new) }
 {
     let Ok(findings) = find_unfit(alloc, file) else {
         return ProgramEnd::OutOfMemory;
@@ -67,7 +67,7 @@ fn write_lawful<'a, W: Output>(
     checking: Checking,
     output: &mut W,
 ) -> ProgramEnd<'a>
-    ensures { IsWritten result Done (W.failures output.old) (W.failures output.new) }
+    ensures { IsWritten result Done (W.seen output.old) (W.seen output.new) }
 {
     let warning = warning(alloc, file);
     let written = if checking.is_json {
@@ -93,7 +93,7 @@ fn write_faults<'a, W: Output, F: Remark>(
     checking: Checking,
     output: &mut W,
 ) -> ProgramEnd<'a>
-    ensures { IsWritten result FaultsFound (W.failures output.old) (W.failures output.new) }
+    ensures { IsWritten result FaultsFound (W.seen output.old) (W.seen output.new) }
 {
     let written = if checking.is_json {
         write_fault_object(name, faults, output)
@@ -113,8 +113,8 @@ fn write_some<W: Output, F: Remark>(
     has_all: bool,
     output: &mut W,
 ) -> Result<(), Failed>
-    ensures failed { OnErr result (W.failures output.old < W.failures output.new) }
-    ensures kept { W.failures output.old ≤ W.failures output.new }
+    ensures failed { OnErr result ((W.seen output.old).failures < (W.seen output.new).failures) }
+    ensures kept { (W.seen output.old).failures ≤ (W.seen output.new).failures }
 {
     let shown = if has_all {
         faults
@@ -137,8 +137,8 @@ fn write_some<W: Output, F: Remark>(
 
 /// Writes a line for each fault.
 fn write_lines<W: Output, F: Remark>(name: &str, faults: &[F], output: &mut W) -> Result<(), Failed>
-    ensures failed { OnErr result (W.failures output.old < W.failures output.new) }
-    ensures kept { W.failures output.old ≤ W.failures output.new }
+    ensures failed { OnErr result ((W.seen output.old).failures < (W.seen output.new).failures) }
+    ensures kept { (W.seen output.old).failures ≤ (W.seen output.new).failures }
 {
     for fault in faults {
         write_line(name, fault.line(), fault.text(), output)?;
@@ -153,7 +153,7 @@ pub(crate) fn write_unread<'a, W: Output>(
     checking: Checking,
     output: &mut W,
 ) -> ProgramEnd<'a>
-    ensures { IsWritten result FileNotRead (W.failures output.old) (W.failures output.new) }
+    ensures { IsWritten result FileNotRead (W.seen output.old) (W.seen output.new) }
 {
     let written = if checking.is_json {
         write_unread_object(name, why, output)
@@ -168,8 +168,8 @@ pub(crate) fn write_unread<'a, W: Output>(
 
 /// Writes the line of a file that can't be read.
 fn write_unread_line<W: Output>(name: &str, why: &str, output: &mut W) -> Result<(), Failed>
-    ensures failed { OnErr result (W.failures output.old < W.failures output.new) }
-    ensures kept { W.failures output.old ≤ W.failures output.new }
+    ensures failed { OnErr result ((W.seen output.old).failures < (W.seen output.new).failures) }
+    ensures kept { (W.seen output.old).failures ≤ (W.seen output.new).failures }
 {
     write_all(output, name.as_bytes())?;
     write_three(output, b": can't be read: ", why.as_bytes(), b"\n")
@@ -182,8 +182,8 @@ fn write_line<W: Output>(
     text: &[u8],
     output: &mut W,
 ) -> Result<(), Failed>
-    ensures failed { OnErr result (W.failures output.old < W.failures output.new) }
-    ensures kept { W.failures output.old ≤ W.failures output.new }
+    ensures failed { OnErr result ((W.seen output.old).failures < (W.seen output.new).failures) }
+    ensures kept { (W.seen output.old).failures ≤ (W.seen output.new).failures }
 {
     write_all(output, name.as_bytes())?;
     match line {

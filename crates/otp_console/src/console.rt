@@ -1,6 +1,7 @@
 //! The program but for its words, its files and its standard streams.
 
 ghost use Rattle.std.specs.Prelude.{◌≡◌};
+ghost use Rattle.otp_sim.specs.Devices.{devices};
 ghost use Rattle.otp_console.specs.Endings.{ending_of};
 ghost use Rattle.otp_console.specs.Runs.{IsRun};
 
@@ -17,8 +18,8 @@ pub fn console<'a, R: Input, W: Output>(
     output: &mut W,
 ) -> ProgramEnd<'a>
     ensures { IsRun result file.now
-        (record { left = R.remaining input.old; written = W.contents output.old; read_failures = R.failures input.old; write_failures = W.failures output.old })
-        (record { left = R.remaining input.new; written = W.contents output.new; read_failures = R.failures input.new; write_failures = W.failures output.new }) }
+        (devices (R.seen input.old) (W.seen output.old))
+        (devices (R.seen input.new) (W.seen output.new)) }
 {
     let tree = match read_tree(alloc, file) {
         Ok(tree) => tree,

@@ -11,8 +11,8 @@ use otp_sim::{Failed, Output, write_all};
 
 /// Writes the front of the object of a file.
 fn write_head<W: Output>(name: &str, output: &mut W) -> Result<(), Failed>
-    ensures failed { OnErr result (W.failures output.old < W.failures output.new) }
-    ensures kept { W.failures output.old ≤ W.failures output.new }
+    ensures failed { OnErr result ((W.seen output.old).failures < (W.seen output.new).failures) }
+    ensures kept { (W.seen output.old).failures ≤ (W.seen output.new).failures }
 {
     write_all(output, b"{\"file\": ")?;
     write_json_text(output, name.as_bytes())
@@ -24,8 +24,8 @@ pub(crate) fn write_lawful_object<W: Output>(
     warning: Option<&str>,
     output: &mut W,
 ) -> Result<(), Failed>
-    ensures failed { OnErr result (W.failures output.old < W.failures output.new) }
-    ensures kept { W.failures output.old ≤ W.failures output.new }
+    ensures failed { OnErr result ((W.seen output.old).failures < (W.seen output.new).failures) }
+    ensures kept { (W.seen output.old).failures ≤ (W.seen output.new).failures }
 {
     write_head(name, output)?;
     write_all(output, b", \"faults\": []")?;
@@ -42,8 +42,8 @@ pub(crate) fn write_unread_object<W: Output>(
     why: &str,
     output: &mut W,
 ) -> Result<(), Failed>
-    ensures failed { OnErr result (W.failures output.old < W.failures output.new) }
-    ensures kept { W.failures output.old ≤ W.failures output.new }
+    ensures failed { OnErr result ((W.seen output.old).failures < (W.seen output.new).failures) }
+    ensures kept { (W.seen output.old).failures ≤ (W.seen output.new).failures }
 {
     write_head(name, output)?;
     write_all(output, b", \"unread\": ")?;
@@ -53,8 +53,8 @@ pub(crate) fn write_unread_object<W: Output>(
 
 /// Writes the object of a fault.
 fn write_fault<W: Output, F: Remark>(fault: &F, output: &mut W) -> Result<(), Failed>
-    ensures failed { OnErr result (W.failures output.old < W.failures output.new) }
-    ensures kept { W.failures output.old ≤ W.failures output.new }
+    ensures failed { OnErr result ((W.seen output.old).failures < (W.seen output.new).failures) }
+    ensures kept { (W.seen output.old).failures ≤ (W.seen output.new).failures }
 {
     write_all(output, b"{\"line\": ")?;
     write_json_line(output, fault.line())?;
@@ -65,8 +65,8 @@ fn write_fault<W: Output, F: Remark>(fault: &F, output: &mut W) -> Result<(), Fa
 
 /// Writes the objects of faults behind the first, each after a comma.
 fn write_next<W: Output, F: Remark>(faults: &[F], output: &mut W) -> Result<(), Failed>
-    ensures failed { OnErr result (W.failures output.old < W.failures output.new) }
-    ensures kept { W.failures output.old ≤ W.failures output.new }
+    ensures failed { OnErr result ((W.seen output.old).failures < (W.seen output.new).failures) }
+    ensures kept { (W.seen output.old).failures ≤ (W.seen output.new).failures }
 {
     for fault in faults {
         write_all(output, b", ")?;
@@ -81,8 +81,8 @@ pub(crate) fn write_fault_object<W: Output, F: Remark>(
     faults: &[F],
     output: &mut W,
 ) -> Result<(), Failed>
-    ensures failed { OnErr result (W.failures output.old < W.failures output.new) }
-    ensures kept { W.failures output.old ≤ W.failures output.new }
+    ensures failed { OnErr result ((W.seen output.old).failures < (W.seen output.new).failures) }
+    ensures kept { (W.seen output.old).failures ≤ (W.seen output.new).failures }
 {
     write_head(name, output)?;
     write_all(output, b", \"faults\": [")?;

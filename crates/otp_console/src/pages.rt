@@ -17,7 +17,7 @@ pub(crate) fn put_tree<'a, F: TreeFiles>(
     file: &[u8],
     page: &'a str,
 ) -> ProgramEnd<'a>
-    ensures { IsPaged (F.keeps files.now) page.entry (IsTreePage name.now file.now) (λ ending. IsNotMade name.now ending file.now) result }
+    ensures { IsPaged (F.known files.now).keeps page.entry (IsTreePage name.now file.now) (λ ending. IsNotMade name.now ending file.now) result }
 {
     let html = match page_of_tree(alloc, name, file) {
         Ok(html) => html,
@@ -39,7 +39,7 @@ pub(crate) fn put_limits<'a, F: TreeFiles>(
     grain: Grain,
     page: &'a str,
 ) -> ProgramEnd<'a>
-    ensures { IsPaged (F.keeps files.now) page.entry (IsLimitsPage grain pick.entry name.now file.now) (λ ending. HasNoLimits grain pick.entry name.now ending file.now) result }
+    ensures { IsPaged (F.known files.now).keeps page.entry (IsLimitsPage grain pick.entry name.now file.now) (λ ending. HasNoLimits grain pick.entry name.now ending file.now) result }
 {
     let html = match page_of_limits(alloc, name, file, pick, grain) {
         Ok(html) => html,
@@ -61,7 +61,7 @@ pub(crate) fn put_run<'a, F: TreeFiles>(
     clock: Clock,
     page: &'a str,
 ) -> ProgramEnd<'a>
-    ensures { IsPaged (F.keeps files.now) page.entry (IsRunPage name.now file.now) (λ ending. IsNotMade name.now ending file.now) result }
+    ensures { IsPaged (F.known files.now).keeps page.entry (IsRunPage name.now file.now) (λ ending. IsNotMade name.now ending file.now) result }
 {
     let (html, ending) = match page_of_run(alloc, name, file, script, clock) {
         Ok(run) => run,

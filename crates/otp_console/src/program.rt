@@ -1,6 +1,7 @@
 //! The program but for the system under it: what it does for which words, and what it tells on which stream.
 
 ghost use Rattle.std.specs.Prelude.{ℕ, List, Option, ◌≡◌, ◌≤◌, ◌⊎◌, ◌||◌, false};
+ghost use Rattle.otp_sim.specs.Devices.{Readable, devices};
 ghost use Rattle.otp_console.specs.Runs.{Answers, Checks, ChecksAll, Does, IsObeyed, IsProgramRun, RunsTree, ServesTree, Simulates, draws};
 ghost use Rattle.otp_ending.specs.Told.{TellsFirst};
 ghost use Rattle.otp_ending.specs.declared.ending.ProgramEnd.TheVariants as end;
@@ -12,12 +13,11 @@ use crate::console::console;
 use crate::using::use_named;
 use clap::Error;
 use otp_ending::{ProgramEnd, TreeFiles, Unread, read_run_file, read_small, tell};
-use otp_jobs::Settings;
 use otp_live::Watch;
-use otp_running::{Pool, explain, run_file, serve_file};
+use otp_running::{Pool, RunAs, ServeAs, explain, run_file, serve_file};
 use otp_sim::{Failed, Input, Output, write_all};
 use otp_tree::Gate;
-use otp_words::{Checking, Command, RunShows, Serving, WordsFault, read_words};
+use otp_words::{Checking, Command, WordsFault, read_words};
 use std::alloc::Global;
 use std::sync::Wait;
 use std::thread::Threads;
@@ -29,7 +29,6 @@ use std::time;
 /// happens to each process of a tree that is served is told the pool's watch alone, and that where `--log` asks for it.
 pub fn run<H, G, L, F, R, W, E>(
     pool: &Pool<'_, H, G, L>,
-    alloc: Global,
     words: Result<Vec<String>, WordsFault>,
     files: &F,
     input: &mut R,
@@ -44,19 +43,18 @@ where
     R: Input,
     W: Output,
     E: Output,
-    ensures { IsProgramRun (F.holds files.now) (F.keeps files.now) result
-        (record { left = R.remaining input.old; written = W.contents output.old; read_failures = R.failures input.old; write_failures = W.failures output.old })
-        (record { left = R.remaining input.new; written = W.contents output.new; read_failures = R.failures input.new; write_failures = W.failures output.new })
-        (E.contents errors.old) (E.contents errors.new) (E.failures errors.old) (E.failures errors.new) }
+    ensures { IsProgramRun (F.known files.now) result
+        (devices (R.seen input.old) (W.seen output.old))
+        (devices (R.seen input.new) (W.seen output.new))
+        (E.seen errors.old) (E.seen errors.new) }
 {
-    let ending = obey(pool, alloc, &words, files, input, output, errors);
+    let ending = obey(pool, &words, files, input, output, errors);
     tell(errors, ending, files.unwritten())
 }
 
 /// Does what the words ask for, the program's own name first, or answers them.
 fn obey<'a, H, G, L, F, R, W, E>(
     pool: &Pool<'_, H, G, L>,
-    alloc: Global,
     words: &'a Result<Vec<String>, WordsFault>,
     files: &F,
     input: &mut R,
@@ -71,26 +69,25 @@ where
     R: Input,
     W: Output,
     E: Output,
-    ensures obeyed { IsObeyed (F.holds files.now) (F.keeps files.now) result
-        (record { left = R.remaining input.old; written = W.contents output.old; read_failures = R.failures input.old; write_failures = W.failures output.old })
-        (record { left = R.remaining input.new; written = W.contents output.new; read_failures = R.failures input.new; write_failures = W.failures output.new })
-        (E.contents errors.old) (E.contents errors.new) (E.failures errors.old) (E.failures errors.new) }
-    ensures kept { E.failures errors.old ≤ E.failures errors.new }
+    ensures obeyed { IsObeyed (F.known files.now) result
+        (devices (R.seen input.old) (W.seen output.old))
+        (devices (R.seen input.new) (W.seen output.new))
+        (E.seen errors.old) (E.seen errors.new) }
+    ensures kept { (E.seen errors.old).failures ≤ (E.seen errors.new).failures }
 {
     let words = match words {
         Ok(words) => words,
-        Err(fault) => return answer(alloc, fault, output, errors),
+        Err(fault) => return answer(pool.alloc, fault, output, errors),
     };
-    match read_words(alloc, words) {
-        Ok(command) => do_command(pool, alloc, command, files, input, output, errors),
-        Err(fault) => answer(alloc, &fault, output, errors),
+    match read_words(pool.alloc, words) {
+        Ok(command) => do_command(pool, command, files, input, output, errors),
+        Err(fault) => answer(pool.alloc, &fault, output, errors),
     }
 }
 
 /// Does what a command asks for.
 pub fn do_command<'a, H, G, L, F, R, W, E>(
     pool: &Pool<'_, H, G, L>,
-    alloc: Global,
     command: Command<'a>,
     files: &F,
     input: &mut R,
@@ -105,12 +102,13 @@ where
     R: Input,
     W: Output,
     E: Output,
-    ensures done { Does (F.holds files.now) (F.keeps files.now) command.entry result
-        (record { left = R.remaining input.old; written = W.contents output.old; read_failures = R.failures input.old; write_failures = W.failures output.old })
-        (record { left = R.remaining input.new; written = W.contents output.new; read_failures = R.failures input.new; write_failures = W.failures output.new }) }
-    ensures first { TellsFirst (draws command.entry) result (E.contents errors.old) (E.contents errors.new) (E.failures errors.old) (E.failures errors.new) }
-    ensures kept { E.failures errors.old ≤ E.failures errors.new }
+    ensures done { Does (F.known files.now) command.entry result
+        (devices (R.seen input.old) (W.seen output.old))
+        (devices (R.seen input.new) (W.seen output.new)) }
+    ensures first { TellsFirst (draws command.entry) result (E.seen errors.old) (E.seen errors.new) }
+    ensures kept { (E.seen errors.old).failures ≤ (E.seen errors.new).failures }
 {
+    let alloc = pool.alloc;
     match command {
         Command::Sim { file } => simulate(alloc, files, file, input, output, errors),
         Command::Check {
@@ -121,15 +119,23 @@ where
             file,
             settings,
             shows,
-        } => run_named(pool, alloc, files, file, settings, shows, output, errors),
+        } => {
+            let how = RunAs { settings, shows };
+            run_named(pool, files, file, how, output, errors)
+        },
         Command::Serve {
             file,
             settings,
             serving,
             shows,
-        } => serve_named(
-            pool, alloc, files, file, settings, serving, shows, output, errors,
-        ),
+        } => {
+            let how = ServeAs {
+                settings,
+                serving,
+                shows,
+            };
+            serve_named(pool, files, file, how, output, errors)
+        }
         Command::Use { file, usage } => use_named(alloc, files, file, usage, input, output, errors),
     }
 }
@@ -143,11 +149,11 @@ fn simulate<'a, F: TreeFiles, R: Input, W: Output, E: Output>(
     output: &mut W,
     errors: &mut E,
 ) -> ProgramEnd<'a>
-    ensures done { Simulates (F.holds files.now name.now) result
-        (record { left = R.remaining input.old; written = W.contents output.old; read_failures = R.failures input.old; write_failures = W.failures output.old })
-        (record { left = R.remaining input.new; written = W.contents output.new; read_failures = R.failures input.new; write_failures = W.failures output.new }) }
-    ensures first { TellsFirst false result (E.contents errors.old) (E.contents errors.new) (E.failures errors.old) (E.failures errors.new) }
-    ensures kept { E.failures errors.old ≤ E.failures errors.new }
+    ensures done { Simulates ((F.known files.now).holds name.now) result
+        (devices (R.seen input.old) (W.seen output.old))
+        (devices (R.seen input.new) (W.seen output.new)) }
+    ensures first { TellsFirst false result (E.seen errors.old) (E.seen errors.new) }
+    ensures kept { (E.seen errors.old).failures ≤ (E.seen errors.new).failures }
 {
     match files.read(name) {
         Ok(file) => {
@@ -162,11 +168,9 @@ fn simulate<'a, F: TreeFiles, R: Input, W: Output, E: Output>(
 /// Runs the tree of a file on threads.
 fn run_named<'a, H, G, L, F, W, E>(
     pool: &Pool<'_, H, G, L>,
-    alloc: Global,
     files: &F,
     name: &'a str,
-    settings: Settings,
-    shows: RunShows,
+    how: RunAs,
     output: &mut W,
     errors: &mut E,
 ) -> ProgramEnd<'a>
@@ -176,14 +180,14 @@ where
     F: TreeFiles,
     W: Output,
     E: Output,
-    ensures done { RunsTree (F.holds files.now name.now) shows.is_json name.now settings.counted result
-        (record { bytes = W.contents output.old; failures = W.failures output.old })
-        (record { bytes = W.contents output.new; failures = W.failures output.new }) }
-    ensures first { TellsFirst (shows.is_drawn || shows.is_why) result (E.contents errors.old) (E.contents errors.new) (E.failures errors.old) (E.failures errors.new) }
-    ensures kept { E.failures errors.old ≤ E.failures errors.new }
+    ensures done { RunsTree ((F.known files.now).holds name.now) how.shows.is_json name.now how.settings.counted result
+        (W.seen output.old)
+        (W.seen output.new) }
+    ensures first { TellsFirst (how.shows.is_drawn || how.shows.is_why) result (E.seen errors.old) (E.seen errors.new) }
+    ensures kept { (E.seen errors.old).failures ≤ (E.seen errors.new).failures }
 {
     match read_run_file(files, name, errors) {
-        Ok(file) => run_file(pool, alloc, name, &file, settings, shows, output, errors),
+        Ok(file) => run_file(pool, name, &file, how, output, errors),
         Err(ending) => ending,
     }
 }
@@ -191,12 +195,9 @@ where
 /// Serves the tree of a file on threads for a time.
 fn serve_named<'a, H, G, L, F, W, E>(
     pool: &Pool<'_, H, G, L>,
-    alloc: Global,
     files: &F,
     name: &'a str,
-    settings: Settings,
-    serving: Serving,
-    shows: RunShows,
+    how: ServeAs,
     output: &mut W,
     errors: &mut E,
 ) -> ProgramEnd<'a>
@@ -206,16 +207,14 @@ where
     F: TreeFiles,
     W: Output,
     E: Output,
-    ensures done { ServesTree (F.holds files.now name.now) shows.is_json name.now result
-        (record { bytes = W.contents output.old; failures = W.failures output.old })
-        (record { bytes = W.contents output.new; failures = W.failures output.new }) }
-    ensures first { TellsFirst (shows.is_drawn || shows.is_why) result (E.contents errors.old) (E.contents errors.new) (E.failures errors.old) (E.failures errors.new) }
-    ensures kept { E.failures errors.old ≤ E.failures errors.new }
+    ensures done { ServesTree ((F.known files.now).holds name.now) how.shows.is_json name.now result
+        (W.seen output.old)
+        (W.seen output.new) }
+    ensures first { TellsFirst (how.shows.is_drawn || how.shows.is_why) result (E.seen errors.old) (E.seen errors.new) }
+    ensures kept { (E.seen errors.old).failures ≤ (E.seen errors.new).failures }
 {
     match read_run_file(files, name, errors) {
-        Ok(file) => serve_file(
-            pool, alloc, name, &file, settings, serving, shows, output, errors,
-        ),
+        Ok(file) => serve_file(pool, name, &file, how, output, errors),
         Err(ending) => ending,
     }
 }
@@ -228,9 +227,9 @@ fn check_all<'a, F: TreeFiles, W: Output>(
     checking: Checking,
     output: &mut W,
 ) -> ProgramEnd<'a>
-    ensures { ChecksAll checking.has_starts (λ name. F.holds files.now name.now) names.now result
-        (record { bytes = W.contents output.old; failures = W.failures output.old })
-        (record { bytes = W.contents output.new; failures = W.failures output.new }) }
+    ensures { ChecksAll checking.has_starts (λ name. (F.known files.now).holds name.now) names.now result
+        (W.seen output.old)
+        (W.seen output.new) }
 {
     let mut ending = ProgramEnd::Done;
     for name in names {
@@ -251,9 +250,9 @@ fn check_named<'a, F: TreeFiles, W: Output>(
     checking: Checking,
     output: &mut W,
 ) -> ProgramEnd<'a>
-    ensures { Checks checking.has_starts (F.holds files.now name.now) result
-        (record { bytes = W.contents output.old; failures = W.failures output.old })
-        (record { bytes = W.contents output.new; failures = W.failures output.new }) }
+    ensures { Checks checking.has_starts ((F.known files.now).holds name.now) result
+        (W.seen output.old)
+        (W.seen output.new) }
 {
     match read_small(files, name) {
         Ok(file) => check_file(alloc, name, &file, checking, output),
@@ -270,11 +269,11 @@ fn answer<'a, W: Output, E: Output>(
     errors: &mut E,
 ) -> ProgramEnd<'a>
     ensures ending { EndsFor fault.now result }
-    ensures done { (left : Option (List ℕ)) (failures : ℕ) → Answers result
-        (record { left = left; written = W.contents output.old; read_failures = failures; write_failures = W.failures output.old })
-        (record { left = left; written = W.contents output.new; read_failures = failures; write_failures = W.failures output.new }) }
-    ensures first { TellsFirst false result (E.contents errors.old) (E.contents errors.new) (E.failures errors.old) (E.failures errors.new) }
-    ensures kept { E.failures errors.old ≤ E.failures errors.new }
+    ensures done { (unread : Readable) → Answers result
+        (devices unread (W.seen output.old))
+        (devices unread (W.seen output.new)) }
+    ensures first { TellsFirst false result (E.seen errors.old) (E.seen errors.new) }
+    ensures kept { (E.seen errors.old).failures ≤ (E.seen errors.new).failures }
 {
     match fault {
         WordsFault::Clap(error) => show(alloc, error, output, errors),
@@ -293,9 +292,9 @@ fn answer<'a, W: Output, E: Output>(
 /// Writes a text that the words ask for.
 fn show_text<'a, W: Output>(text: &str, output: &mut W) -> ProgramEnd<'a>
     ensures ending { (result ≡ end.Done) ⊎ (result ≡ end.OutputFailed) }
-    ensures done { (left : Option (List ℕ)) (failures : ℕ) → Answers result
-        (record { left = left; written = W.contents output.old; read_failures = failures; write_failures = W.failures output.old })
-        (record { left = left; written = W.contents output.new; read_failures = failures; write_failures = W.failures output.new }) }
+    ensures done { (unread : Readable) → Answers result
+        (devices unread (W.seen output.old))
+        (devices unread (W.seen output.new)) }
 {
     match write_all(output, text.as_bytes()) {
         Ok(()) => ProgramEnd::Done,
@@ -311,11 +310,11 @@ fn show<'a, W: Output, E: Output>(
     errors: &mut E,
 ) -> ProgramEnd<'a>
     ensures ending { EndsFor (Clap error.now) result }
-    ensures done { (left : Option (List ℕ)) (failures : ℕ) → Answers result
-        (record { left = left; written = W.contents output.old; read_failures = failures; write_failures = W.failures output.old })
-        (record { left = left; written = W.contents output.new; read_failures = failures; write_failures = W.failures output.new }) }
-    ensures first { TellsFirst false result (E.contents errors.old) (E.contents errors.new) (E.failures errors.old) (E.failures errors.new) }
-    ensures kept { E.failures errors.old ≤ E.failures errors.new }
+    ensures done { (unread : Readable) → Answers result
+        (devices unread (W.seen output.old))
+        (devices unread (W.seen output.new)) }
+    ensures first { TellsFirst false result (E.seen errors.old) (E.seen errors.new) }
+    ensures kept { (E.seen errors.old).failures ≤ (E.seen errors.new).failures }
 {
     let Ok(text) = error.to_string(alloc) else {
         return ProgramEnd::OutOfMemory;

@@ -1,6 +1,7 @@
 //! What one tree file is used for: how a question about it, and the other files that it needs, come to an end of the program.
 
-ghost use Rattle.std.specs.Prelude.{ℕ, List, Option, ◌≡◌, ◌≤◌, option_map, false};
+ghost use Rattle.std.specs.Prelude.{ℕ, List, Option, ◌≡◌, ◌≤◌, false};
+ghost use Rattle.otp_sim.specs.Devices.{Readable, devices};
 ghost use Rattle.otp_console.specs.Used.{IsComparedWith, IsRead, IsReplayOf, IsRunPaged, IsTrialFor, IsTrialOf, IsUsed, Uses};
 ghost use Rattle.otp_ending.specs.Told.{TellsFirst};
 ghost use Rattle.otp_questions.specs.Limited.{IsLimited};
@@ -11,10 +12,12 @@ use crate::pages::{put_limits, put_run, put_tree};
 use otp_ending::{ProgramEnd, TreeFiles, read_file, read_log, read_tree_file};
 use otp_folds::{Grain, Pick, Progress, Unseen};
 use otp_questions::{
-    compare_files, draw_file, limit_file, replay_file, stop_file, suggest_file, tell_run, try_file,
+    Asking, Log, compare_files, draw_file, limit_file, replay_file, stop_file, suggest_file,
+    tell_run, try_file,
 };
+use otp_replay::Replaying;
 use otp_sim::{Counted, Input, Output};
-use otp_try::{Clock, Shows, Writer};
+use otp_try::{Clock, Playing, Shows, Writer};
 use otp_words::{Form, TrialShows, Usage};
 use std::alloc::Global;
 
@@ -28,11 +31,11 @@ pub(crate) fn use_named<'a, F: TreeFiles, R: Input, W: Output, E: Output>(
     output: &mut W,
     errors: &mut E,
 ) -> ProgramEnd<'a>
-    ensures done { Uses (F.holds files.now) (F.keeps files.now) name.now usage.entry result
-        (record { left = R.remaining input.old; written = W.contents output.old; read_failures = R.failures input.old; write_failures = W.failures output.old })
-        (record { left = R.remaining input.new; written = W.contents output.new; read_failures = R.failures input.new; write_failures = W.failures output.new }) }
-    ensures first { TellsFirst false result (E.contents errors.old) (E.contents errors.new) (E.failures errors.old) (E.failures errors.new) }
-    ensures kept { E.failures errors.old ≤ E.failures errors.new }
+    ensures done { Uses (F.known files.now) name.now usage.entry result
+        (devices (R.seen input.old) (W.seen output.old))
+        (devices (R.seen input.new) (W.seen output.new)) }
+    ensures first { TellsFirst false result (E.seen errors.old) (E.seen errors.new) }
+    ensures kept { (E.seen errors.old).failures ≤ (E.seen errors.new).failures }
 {
     match read_tree_file(files, name, errors) {
         Ok(file) => use_file(alloc, files, name, &file, usage, input, output, errors),
@@ -51,11 +54,11 @@ fn use_file<'a, F: TreeFiles, R: Input, W: Output, E: Output>(
     output: &mut W,
     errors: &mut E,
 ) -> ProgramEnd<'a>
-    ensures done { IsUsed (F.holds files.now) (F.keeps files.now) name.now usage.entry result file.now
-        (record { left = R.remaining input.old; written = W.contents output.old; read_failures = R.failures input.old; write_failures = W.failures output.old })
-        (record { left = R.remaining input.new; written = W.contents output.new; read_failures = R.failures input.new; write_failures = W.failures output.new }) }
-    ensures first { TellsFirst false result (E.contents errors.old) (E.contents errors.new) (E.failures errors.old) (E.failures errors.new) }
-    ensures kept { E.failures errors.old ≤ E.failures errors.new }
+    ensures done { IsUsed (F.known files.now) name.now usage.entry result file.now
+        (devices (R.seen input.old) (W.seen output.old))
+        (devices (R.seen input.new) (W.seen output.new)) }
+    ensures first { TellsFirst false result (E.seen errors.old) (E.seen errors.new) }
+    ensures kept { (E.seen errors.old).failures ≤ (E.seen errors.new).failures }
 {
     match usage {
         Usage::Try {
@@ -71,7 +74,14 @@ fn use_file<'a, F: TreeFiles, R: Input, W: Output, E: Output>(
         Usage::Stop => stop_file(alloc, name, file, output),
         Usage::Limit { pick, grain, form } => match form {
             Form::Text => limit_seen(alloc, files, name, file, pick, grain, output),
-            Form::Object => limit_file(alloc, name, file, pick, grain, true, &Unseen, output),
+            Form::Object => {
+                let asking = Asking {
+                    pick,
+                    grain,
+                    is_json: true,
+                };
+                limit_file(alloc, name, file, asking, &Unseen, output)
+            },
             Form::Page(page) => put_limits(alloc, files, name, file, pick, grain, page),
         },
         Usage::Suggest { child, every } => suggest_file(alloc, name, file, child, every, output),
@@ -109,11 +119,16 @@ fn limit_seen<'a, F: TreeFiles, W: Output>(
     output: &mut W,
 ) -> ProgramEnd<'a>
     ensures { IsLimited false grain pick.entry name.now result file.now
-        (record { bytes = W.contents output.old; failures = W.failures output.old })
-        (record { bytes = W.contents output.new; failures = W.failures output.new }) }
+        (W.seen output.old)
+        (W.seen output.new) }
 {
     let seen = Seen { files };
-    limit_file(alloc, name, file, pick, grain, false, &seen, output)
+    let asking = Asking {
+        pick,
+        grain,
+        is_json: false,
+    };
+    limit_file(alloc, name, file, asking, &seen, output)
 }
 
 /// Tries the tree of a file by the lines of a script, and writes the run in this form.
@@ -130,11 +145,11 @@ fn try_as<'a, F: TreeFiles, R: Input, W: Output, E: Output>(
     output: &mut W,
     errors: &mut E,
 ) -> ProgramEnd<'a>
-    ensures done { IsTrialFor (F.keeps files.now) name.now (option_map (λ script. script.now) script.entry) form.entry result file.now
-        (record { left = R.remaining input.old; written = W.contents output.old; read_failures = R.failures input.old; write_failures = W.failures output.old })
-        (record { left = R.remaining input.new; written = W.contents output.new; read_failures = R.failures input.new; write_failures = W.failures output.new }) }
-    ensures first { TellsFirst false result (E.contents errors.old) (E.contents errors.new) (E.failures errors.old) (E.failures errors.new) }
-    ensures kept { E.failures errors.old ≤ E.failures errors.new }
+    ensures done { IsTrialFor (F.known files.now) name.now script.entry form.entry result file.now
+        (devices (R.seen input.old) (W.seen output.old))
+        (devices (R.seen input.new) (W.seen output.new)) }
+    ensures first { TellsFirst false result (E.seen errors.old) (E.seen errors.new) }
+    ensures kept { (E.seen errors.old).failures ≤ (E.seen errors.new).failures }
 {
     match form {
         Form::Text => try_by(
@@ -167,10 +182,10 @@ fn tell_whole<'a, F: TreeFiles, W: Output, E: Output>(
 ) -> ProgramEnd<'a>
     ensures done { IsRead (λ ending. IsRunTold name.now ending file.now)
         result
-        (record { bytes = W.contents output.old; failures = W.failures output.old })
-        (record { bytes = W.contents output.new; failures = W.failures output.new }) }
-    ensures first { TellsFirst false result (E.contents errors.old) (E.contents errors.new) (E.failures errors.old) (E.failures errors.new) }
-    ensures kept { E.failures errors.old ≤ E.failures errors.new }
+        (W.seen output.old)
+        (W.seen output.new) }
+    ensures first { TellsFirst false result (E.seen errors.old) (E.seen errors.new) }
+    ensures kept { (E.seen errors.old).failures ≤ (E.seen errors.new).failures }
 {
     match read_log(files, script.unwrap_or("-"), errors) {
         Ok(lines) => tell_run(alloc, name, file, &lines, clock, output),
@@ -189,9 +204,9 @@ fn put_whole<'a, F: TreeFiles, E: Output>(
     page: &'a str,
     errors: &mut E,
 ) -> ProgramEnd<'a>
-    ensures done { IsRunPaged (F.keeps files.now) page.entry name.now file.now result }
-    ensures first { TellsFirst false result (E.contents errors.old) (E.contents errors.new) (E.failures errors.old) (E.failures errors.new) }
-    ensures kept { E.failures errors.old ≤ E.failures errors.new }
+    ensures done { IsRunPaged (F.known files.now).keeps page.entry name.now file.now result }
+    ensures first { TellsFirst false result (E.seen errors.old) (E.seen errors.new) }
+    ensures kept { (E.seen errors.old).failures ≤ (E.seen errors.new).failures }
 {
     match read_log(files, script.unwrap_or("-"), errors) {
         Ok(lines) => put_run(alloc, files, name, file, &lines, clock, page),
@@ -212,27 +227,30 @@ fn try_by<'a, F: TreeFiles, R: Input, W: Output, E: Output>(
     output: &mut W,
     errors: &mut E,
 ) -> ProgramEnd<'a>
-    ensures done { IsTrialOf name.now (option_map (λ script. script.now) script.entry) result file.now
-        (record { left = R.remaining input.old; written = W.contents output.old; read_failures = R.failures input.old; write_failures = W.failures output.old })
-        (record { left = R.remaining input.new; written = W.contents output.new; read_failures = R.failures input.new; write_failures = W.failures output.new }) }
-    ensures first { TellsFirst false result (E.contents errors.old) (E.contents errors.new) (E.failures errors.old) (E.failures errors.new) }
-    ensures kept { E.failures errors.old ≤ E.failures errors.new }
+    ensures done { IsTrialOf name.now script.entry result file.now
+        (devices (R.seen input.old) (W.seen output.old))
+        (devices (R.seen input.new) (W.seen output.new)) }
+    ensures first { TellsFirst false result (E.seen errors.old) (E.seen errors.new) }
+    ensures kept { (E.seen errors.old).failures ≤ (E.seen errors.new).failures }
 {
     let seen = shows_of(files, shows);
     let Some(script) = script else {
-        return try_file(
-            alloc,
-            name,
-            file,
-            writer_at(files, writer),
-            seen,
-            shows.clock,
-            input,
-            output,
-        );
+        let playing = Playing {
+            writer: writer_at(files, writer),
+            shows: seen,
+            clock: shows.clock,
+        };
+        return try_file(alloc, name, file, playing, input, output);
     };
     match read_file(files, script, errors) {
-        Ok(lines) => try_lines(alloc, name, file, writer, seen, shows.clock, &lines, output),
+        Ok(lines) => {
+            let playing = Playing {
+                writer,
+                shows: seen,
+                clock: shows.clock,
+            };
+            try_lines(alloc, name, file, playing, &lines, output)
+        }
         Err(ending) => ending,
     }
 }
@@ -265,18 +283,16 @@ fn try_lines<'a, W: Output>(
     alloc: Global,
     name: &'a str,
     file: &[u8],
-    writer: Writer,
-    shows: Shows,
-    clock: Clock,
+    playing: Playing,
     lines: &[u8],
     output: &mut W,
 ) -> ProgramEnd<'a>
-    ensures { (left : Option (List ℕ)) (failures : ℕ) → IsTrial name.now result file.now
-        (record { left = left; written = W.contents output.old; read_failures = failures; write_failures = W.failures output.old })
-        (record { left = left; written = W.contents output.new; read_failures = failures; write_failures = W.failures output.new }) }
+    ensures { (unread : Readable) → IsTrial name.now result file.now
+        (devices unread (W.seen output.old))
+        (devices unread (W.seen output.new)) }
 {
     let mut script = Counted::new(lines);
-    try_file(alloc, name, file, writer, shows, clock, &mut script, output)
+    try_file(alloc, name, file, playing, &mut script, output)
 }
 
 /// Says what differs between the tree of a file and that of another.
@@ -289,11 +305,11 @@ fn compare_with<'a, F: TreeFiles, W: Output, E: Output>(
     output: &mut W,
     errors: &mut E,
 ) -> ProgramEnd<'a>
-    ensures done { IsComparedWith (F.holds files.now other.now) name.now other.now result file.now
-        (record { bytes = W.contents output.old; failures = W.failures output.old })
-        (record { bytes = W.contents output.new; failures = W.failures output.new }) }
-    ensures first { TellsFirst false result (E.contents errors.old) (E.contents errors.new) (E.failures errors.old) (E.failures errors.new) }
-    ensures kept { E.failures errors.old ≤ E.failures errors.new }
+    ensures done { IsComparedWith ((F.known files.now).holds other.now) name.now other.now result file.now
+        (W.seen output.old)
+        (W.seen output.new) }
+    ensures first { TellsFirst false result (E.seen errors.old) (E.seen errors.new) }
+    ensures kept { (E.seen errors.old).failures ≤ (E.seen errors.new).failures }
 {
     match read_tree_file(files, other, errors) {
         Ok(other_file) => compare_files(alloc, name, file, other, &other_file, output),
@@ -313,24 +329,25 @@ fn replay_log<'a, F: TreeFiles, W: Output, E: Output>(
     output: &mut W,
     errors: &mut E,
 ) -> ProgramEnd<'a>
-    ensures done { IsReplayOf (F.holds files.now log.now) log.entry is_listed name.now result file.now
-        (record { bytes = W.contents output.old; failures = W.failures output.old })
-        (record { bytes = W.contents output.new; failures = W.failures output.new }) }
-    ensures first { TellsFirst false result (E.contents errors.old) (E.contents errors.new) (E.failures errors.old) (E.failures errors.new) }
-    ensures kept { E.failures errors.old ≤ E.failures errors.new }
+    ensures done { IsReplayOf ((F.known files.now).holds log.now) log.entry is_listed name.now result file.now
+        (W.seen output.old)
+        (W.seen output.new) }
+    ensures first { TellsFirst false result (E.seen errors.old) (E.seen errors.new) }
+    ensures kept { (E.seen errors.old).failures ≤ (E.seen errors.new).failures }
 {
     match read_log(files, log, errors) {
-        Ok(text) => replay_file(
-            alloc,
-            name,
-            file,
-            log,
-            &text,
-            shows_of(files, shows),
-            shows.clock,
-            is_listed,
-            output,
-        ),
+        Ok(text) => {
+            let read = Log {
+                name: log,
+                text: &text,
+            };
+            let replaying = Replaying {
+                shows: shows_of(files, shows),
+                clock: shows.clock,
+                is_listed,
+            };
+            replay_file(alloc, name, file, read, replaying, output)
+        }
         Err(ending) => ending,
     }
 }

@@ -68,17 +68,16 @@ pub(crate) fn write_change(
 pub(crate) fn write_number_change(
     title: &[u8],
     key: &[u8],
-    one: u64,
-    other: u64,
+    numbers: (u64, u64),
     words: &mut Words,
     out: &mut Vec<u8>,
 ) -> Result<(), AllocError>
-    ensures { OnOk result (out.new.items ≡ out.old.items ++ change_text title.now key.now (decimal one) (decimal other)) }
+    ensures { OnOk result (out.new.items ≡ out.old.items ++ change_text title.now key.now (decimal numbers.0) (decimal numbers.1)) }
 {
     words.one.clear();
     words.other.clear();
-    write_number(one, &mut words.one)?;
-    write_number(other, &mut words.other)?;
+    write_number(numbers.0, &mut words.one)?;
+    write_number(numbers.1, &mut words.other)?;
     write_change(
         title,
         key,
@@ -137,7 +136,7 @@ fn write_strategy(
         b.strategy.word().as_bytes(),
         out,
     )?;
-    write_number_change(title, b"intensity", a.intensity, b.intensity, words, out)
+    write_number_change(title, b"intensity", (a.intensity, b.intensity), words, out)
 }
 
 /// Appends periods, and what the end of significant children does, where they differ.

@@ -140,9 +140,9 @@ fn write_affected(
     ensures { OnOk result (out.new.items ≡ out.old.items ++ affected_text title.now a.now b.now) }
 {
     let (one, other) = (a.own.stops.as_slice().len(), b.own.stops.as_slice().len());
-    write_number_change(title, b"stops", one as u64, other as u64, words, out)?;
+    write_number_change(title, b"stops", (one as u64, other as u64), words, out)?;
     let (one, other) = (a.own.starts.as_slice().len(), b.own.starts.as_slice().len());
-    write_number_change(title, b"starts", one as u64, other as u64, words, out)
+    write_number_change(title, b"starts", (one as u64, other as u64), words, out)
 }
 
 /// Appends what differs in the numbers of two rows.

@@ -1,6 +1,7 @@
 -- What is told in two parts.
 use Rattle.std.proofs.Common.{◌≡◌, ℕ, ◌<◌, ◌≤◌, ◌⊎◌, Bool, inl, inr, List, ◌++◌, Option, None, Some, ap, ◌∙◌, append_assoc, arith}
 use Rattle.std.specs.Io.KnownBytes.{Appends}
+use Rattle.otp_sim.specs.Devices.{Written}
 use Rattle.otp_ending.specs.declared.ending.ProgramEnd.{ProgramEnd}
 use Rattle.otp_ending.specs.Statuses.{sentence_since}
 use Rattle.otp_ending.specs.declared.ending.Unwritten.{Unwritten}
@@ -12,12 +13,12 @@ appends_more (Some xs) None c x y first second = absurd first
 appends_more (Some xs) (Some ys) None x y first second = absurd second
 appends_more (Some xs) (Some ys) (Some zs) x y first second = second ∙ ap (λ bytes. bytes ++ y) first ∙ append_assoc xs x y
 
-pub told_more : (x y : List ℕ) (a b c : Option (List ℕ)) (f g h : ℕ) → f ≤ g → g ≤ h → IsTold x a b f g → IsTold y b c g h → IsTold (x ++ y) a c f h
-told_more x y a b c f g h first_kept second_kept (inl failed) second = inl (omega arith)
-told_more x y a b c f g h first_kept second_kept (inr first) (inl failed) = inl (omega arith)
-told_more x y a b c f g h first_kept second_kept (inr first) (inr second) = inr (appends_more a b c x y first second)
+pub told_more : (x y : List ℕ) (a b c : Written) → a.failures ≤ b.failures → b.failures ≤ c.failures → IsTold x a b → IsTold y b c → IsTold (x ++ y) a c
+told_more x y a b c first_kept second_kept (inl failed) second = inl (omega arith)
+told_more x y a b c first_kept second_kept (inr first) (inl failed) = inl (omega arith)
+told_more x y a b c first_kept second_kept (inr first) (inr second) = inr (appends_more a.bytes b.bytes c.bytes x y first second)
 
-pub told_last : (drawn : Bool) (why : Unwritten) (ending : ProgramEnd) (a b c : Option (List ℕ)) (f g h : ℕ) → f ≤ g → g ≤ h → TellsFirst drawn ending a b f g
-    → IsTold (sentence_since why ending) b c g h → Tells drawn why ending a c f h
-told_last drawn why ending a b c f g h first_kept second_kept first last =
-    (first.0, (first.1.0, told_more first.0 (sentence_since why ending) a b c f g h first_kept second_kept first.1.1 last))
+pub told_last : (drawn : Bool) (why : Unwritten) (ending : ProgramEnd) (a b c : Written) → a.failures ≤ b.failures → b.failures ≤ c.failures
+    → TellsFirst drawn ending a b → IsTold (sentence_since why ending) b c → Tells drawn why ending a c
+told_last drawn why ending a b c first_kept second_kept first last =
+    (first.0, (first.1.0, told_more first.0 (sentence_since why ending) a b c first_kept second_kept first.1.1 last))

@@ -1,22 +1,18 @@
--- What is said of a file, and what devices show (own).
-use Rattle.std.specs.Prelude.{◌≡◌, ℕ, List, Option, Ok}
+-- What is said of files, and of an input that isn't read (own).
+use Rattle.std.specs.Prelude.{◌≡◌, ℕ, List, Ok}
 use Rattle.otp_file.specs.Files.{Says}
 use Rattle.otp_file.specs.Trees.{Tree}
-use Rattle.otp_sim.specs.Runs.{Devices}
+use Rattle.otp_sim.specs.Devices.{Devices}
+
+-- what is known of files by their names: what bytes one may hold, and what of one to which such bytes were written
+pub record Files : Type 1 where
+  pub holds : List ℕ → List ℕ → Type 0
+  pub keeps : List ℕ → List ℕ → Type 0
 
 -- the file says a tree
 abbrev pub HasTree : List ℕ → Type 0
 HasTree file = (tree : Tree) × Says file (Ok tree)
 
 -- of the input nothing was read
-pub record IsUnread (old new : Devices) : Type 0 where
-  pub left : new.left ≡ old.left
-  pub failures : new.read_failures ≡ old.read_failures
-
--- what a writer shows: the bytes that were written, where they are known, and how often it has failed
-pub record Written : Type 0 where
-  pub bytes : Option (List ℕ)
-  pub failures : ℕ
-
-abbrev pub writer_of : Devices → Written
-writer_of devices = record { bytes = devices.written; failures = devices.write_failures }
+abbrev pub IsUnread : Devices → Devices → Type 0
+IsUnread old new = new.input ≡ old.input

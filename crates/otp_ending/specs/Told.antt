@@ -1,7 +1,8 @@
 -- What is told before the program ends, and what is said of a file that is read (own).
-use Rattle.std.specs.Prelude.{◌≡◌, ◌⊎◌, ℕ, ◌<◌, ◌≤◌, length, Bool, true, false, List, [], ◌++◌, Option}
+use Rattle.std.specs.Prelude.{◌≡◌, ◌⊎◌, ℕ, ◌<◌, ◌≤◌, length, Bool, true, false, List, [], ◌++◌}
 use Rattle.std.specs.Borrow.{Bor}
 use Rattle.std.specs.Io.KnownBytes.{Appends}
+use Rattle.otp_sim.specs.Devices.{Written}
 use Rattle.otp_ending.specs.Statuses.{sentence_since}
 use Rattle.otp_ending.specs.declared.ending.ProgramEnd.{ProgramEnd}
 use Rattle.otp_ending.specs.declared.ending.ProgramEnd.TheVariants.{Done, WordsRefused, TreeNotRead, FileNotRead, TreeRefused, UnknownStart, WrongBody, FaultsFound, OutputFailed, OutOfMemory, NotFinished, LineRefused, PageNotWritten}
@@ -9,8 +10,8 @@ use Rattle.otp_ending.specs.declared.ending.Unwritten.{Unwritten}
 use Rattle.otp_ending.specs.declared.files.TheConstants.{LARGEST_TREE}
 
 -- a text was written, or the writer failed
-abbrev pub IsTold : List ℕ → Option (List ℕ) → Option (List ℕ) → ℕ → ℕ → Type 0
-IsTold text before now failures_before failures_now = (failures_before < failures_now) ⊎ Appends before now text
+abbrev pub IsTold : List ℕ → Written → Written → Type 0
+IsTold text before now = (before.failures < now.failures) ⊎ Appends before.bytes now.bytes text
 
 -- what is told before the program ends: why `clap` refuses the words, why a file can't be read, which command explains why a
 -- tree or a line is refused, which starts are unfit, what a run awaits that isn't finished, and where it is wanted a picture of a tree
@@ -27,14 +28,14 @@ is_told_first drawn Done = drawn
 is_told_first drawn _ = false
 
 -- before the program ends nothing else is told
-abbrev pub TellsFirst : Bool → ProgramEnd → Option (List ℕ) → Option (List ℕ) → ℕ → ℕ → Type 0
-TellsFirst drawn ending before now failures_before failures_now =
-    (text : List ℕ) × ((is_told_first drawn ending ≡ false → text ≡ []) × IsTold text before now failures_before failures_now)
+abbrev pub TellsFirst : Bool → ProgramEnd → Written → Written → Type 0
+TellsFirst drawn ending before now =
+    (text : List ℕ) × ((is_told_first drawn ending ≡ false → text ≡ []) × IsTold text before now)
 
 -- and with it the sentence of the ending, by why the output last failed
-abbrev pub Tells : Bool → Unwritten → ProgramEnd → Option (List ℕ) → Option (List ℕ) → ℕ → ℕ → Type 0
-Tells drawn why ending before now failures_before failures_now =
-    (text : List ℕ) × ((is_told_first drawn ending ≡ false → text ≡ []) × IsTold (text ++ sentence_since why ending) before now failures_before failures_now)
+abbrev pub Tells : Bool → Unwritten → ProgramEnd → Written → Written → Type 0
+Tells drawn why ending before now =
+    (text : List ℕ) × ((is_told_first drawn ending ≡ false → text ≡ []) × IsTold (text ++ sentence_since why ending) before now)
 
 -- whether the next file is checked after a check that ended so
 abbrev pub goes_on : ProgramEnd → Bool

@@ -177,8 +177,8 @@ pub enum Unwritten {
 /// Tells on standard error how the program ends, if not well, and gives the exit status.
 pub fn tell<E: Output>(errors: &mut E, ending: ProgramEnd<'_>, why: Unwritten) -> u8
     ensures status { result ≡ status_of ending.entry }
-    ensures told { IsTold (sentence_since why ending.entry) (E.contents errors.old) (E.contents errors.new) (E.failures errors.old) (E.failures errors.new) }
-    ensures kept { E.failures errors.old ≤ E.failures errors.new }
+    ensures told { IsTold (sentence_since why ending.entry) (E.seen errors.old) (E.seen errors.new) }
+    ensures kept { (E.seen errors.old).failures ≤ (E.seen errors.new).failures }
 {
     // Where nothing can be told, the status alone says it.
     let _told = write_ending(errors, ending, why);
@@ -192,9 +192,9 @@ fn write_ending<E: Output>(
     ending: ProgramEnd<'_>,
     why: Unwritten,
 ) -> Result<(), Failed>
-    ensures ok { OnOk result (Appends (E.contents errors.old) (E.contents errors.new) (sentence_since why ending.entry)) }
-    ensures kept { E.failures errors.old ≤ E.failures errors.new }
-    ensures failed { OnErr result (E.failures errors.old < E.failures errors.new) }
+    ensures ok { OnOk result (Appends (E.seen errors.old).bytes (E.seen errors.new).bytes (sentence_since why ending.entry)) }
+    ensures kept { (E.seen errors.old).failures ≤ (E.seen errors.new).failures }
+    ensures failed { OnErr result ((E.seen errors.old).failures < (E.seen errors.new).failures) }
 {
     match (ending, why) {
         (ProgramEnd::OutputFailed, Unwritten::Closed) => Ok(()),
@@ -207,9 +207,9 @@ fn write_ending<E: Output>(
 
 /// Writes the line that tells of the ending, if there is one.
 fn write_sentence<E: Output>(errors: &mut E, ending: ProgramEnd<'_>) -> Result<(), Failed>
-    ensures ok { OnOk result (Appends (E.contents errors.old) (E.contents errors.new) (sentence_of ending.entry)) }
-    ensures kept { E.failures errors.old ≤ E.failures errors.new }
-    ensures failed { OnErr result (E.failures errors.old < E.failures errors.new) }
+    ensures ok { OnOk result (Appends (E.seen errors.old).bytes (E.seen errors.new).bytes (sentence_of ending.entry)) }
+    ensures kept { (E.seen errors.old).failures ≤ (E.seen errors.new).failures }
+    ensures failed { OnErr result ((E.seen errors.old).failures < (E.seen errors.new).failures) }
 {
     match ending {
         ProgramEnd::Done | ProgramEnd::WordsRefused => Ok(()),
@@ -267,9 +267,9 @@ fn write_sentence<E: Output>(errors: &mut E, ending: ProgramEnd<'_>) -> Result<(
 
 /// Writes what a tree is refused for, and which command tells why.
 fn write_no_tree<E: Output>(errors: &mut E, code: u64, name: &str) -> Result<(), Failed>
-    ensures ok { OnOk result (Appends (E.contents errors.old) (E.contents errors.new) (no_tree_text code name.now)) }
-    ensures kept { E.failures errors.old ≤ E.failures errors.new }
-    ensures failed { OnErr result (E.failures errors.old < E.failures errors.new) }
+    ensures ok { OnOk result (Appends (E.seen errors.old).bytes (E.seen errors.new).bytes (no_tree_text code name.now)) }
+    ensures kept { (E.seen errors.old).failures ≤ (E.seen errors.new).failures }
+    ensures failed { OnErr result ((E.seen errors.old).failures < (E.seen errors.new).failures) }
 {
     write_named(
         errors,
@@ -283,9 +283,9 @@ fn write_no_tree<E: Output>(errors: &mut E, code: u64, name: &str) -> Result<(),
 
 /// Writes that no child or supervisor has this name.
 fn write_not_found<E: Output>(errors: &mut E, name: &str) -> Result<(), Failed>
-    ensures ok { OnOk result (Appends (E.contents errors.old) (E.contents errors.new) (not_found_text name.now)) }
-    ensures kept { E.failures errors.old ≤ E.failures errors.new }
-    ensures failed { OnErr result (E.failures errors.old < E.failures errors.new) }
+    ensures ok { OnOk result (Appends (E.seen errors.old).bytes (E.seen errors.new).bytes (not_found_text name.now)) }
+    ensures kept { (E.seen errors.old).failures ≤ (E.seen errors.new).failures }
+    ensures failed { OnErr result ((E.seen errors.old).failures < (E.seen errors.new).failures) }
 {
     write_three(
         errors,
@@ -298,9 +298,9 @@ fn write_not_found<E: Output>(errors: &mut E, name: &str) -> Result<(), Failed>
 /// Writes that the child with this name is a supervisor, and whose name is wanted.
 #[tactic(auto, unfolding(otp_suggest::specs::Refused::is_supervisor_text))]
 fn write_names_supervisor<E: Output>(errors: &mut E, name: &str) -> Result<(), Failed>
-    ensures ok { OnOk result (Appends (E.contents errors.old) (E.contents errors.new) (names_supervisor_text name.now)) }
-    ensures kept { E.failures errors.old ≤ E.failures errors.new }
-    ensures failed { OnErr result (E.failures errors.old < E.failures errors.new) }
+    ensures ok { OnOk result (Appends (E.seen errors.old).bytes (E.seen errors.new).bytes (names_supervisor_text name.now)) }
+    ensures kept { (E.seen errors.old).failures ≤ (E.seen errors.new).failures }
+    ensures failed { OnErr result ((E.seen errors.old).failures < (E.seen errors.new).failures) }
 {
     write_three(errors, b"error: ", name.as_bytes(), instead().as_bytes())?;
     write_two(errors, name.as_bytes(), b"/worker\n")
@@ -308,9 +308,9 @@ fn write_names_supervisor<E: Output>(errors: &mut E, name: &str) -> Result<(), F
 
 /// Writes that a word says no time between crashes, and why.
 fn write_no_gap<E: Output>(errors: &mut E, word: &str, why: &str) -> Result<(), Failed>
-    ensures ok { OnOk result (Appends (E.contents errors.old) (E.contents errors.new) (no_gap_text word.now why.now)) }
-    ensures kept { E.failures errors.old ≤ E.failures errors.new }
-    ensures failed { OnErr result (E.failures errors.old < E.failures errors.new) }
+    ensures ok { OnOk result (Appends (E.seen errors.old).bytes (E.seen errors.new).bytes (no_gap_text word.now why.now)) }
+    ensures kept { (E.seen errors.old).failures ≤ (E.seen errors.new).failures }
+    ensures failed { OnErr result ((E.seen errors.old).failures < (E.seen errors.new).failures) }
 {
     write_three(errors, b"error: ", word.as_bytes(), b" ")?;
     write_two(errors, why.as_bytes(), b"\n")
@@ -318,9 +318,9 @@ fn write_no_gap<E: Output>(errors: &mut E, word: &str, why: &str) -> Result<(), 
 
 /// Writes which line of a log is refused, and why.
 fn write_log_fault<E: Output>(errors: &mut E, name: &str, fault: LogFault) -> Result<(), Failed>
-    ensures ok { OnOk result (Appends (E.contents errors.old) (E.contents errors.new) (log_text name.now fault)) }
-    ensures kept { E.failures errors.old ≤ E.failures errors.new }
-    ensures failed { OnErr result (E.failures errors.old < E.failures errors.new) }
+    ensures ok { OnOk result (Appends (E.seen errors.old).bytes (E.seen errors.new).bytes (log_text name.now fault)) }
+    ensures kept { (E.seen errors.old).failures ≤ (E.seen errors.new).failures }
+    ensures failed { OnErr result ((E.seen errors.old).failures < (E.seen errors.new).failures) }
 {
     write_three(errors, b"error: ", name.as_bytes(), b": ")?;
     write_numbered(errors, b"line ", fault.line(), fault.reason().as_bytes())
@@ -333,9 +333,9 @@ fn write_said_of<E: Output>(
     said: &[u8],
     why: &[u8],
 ) -> Result<(), Failed>
-    ensures ok { OnOk result (Appends (E.contents errors.old) (E.contents errors.new) (said_text name.now said.now why.now)) }
-    ensures kept { E.failures errors.old ≤ E.failures errors.new }
-    ensures failed { OnErr result (E.failures errors.old < E.failures errors.new) }
+    ensures ok { OnOk result (Appends (E.seen errors.old).bytes (E.seen errors.new).bytes (said_text name.now said.now why.now)) }
+    ensures kept { (E.seen errors.old).failures ≤ (E.seen errors.new).failures }
+    ensures failed { OnErr result ((E.seen errors.old).failures < (E.seen errors.new).failures) }
 {
     write_three(errors, b"error: ", name, said)?;
     write_two(errors, why, b"\n")
@@ -343,9 +343,9 @@ fn write_said_of<E: Output>(
 
 /// Writes which page can't be written, and why.
 fn write_not_written<E: Output>(errors: &mut E, name: &str, why: &str) -> Result<(), Failed>
-    ensures ok { OnOk result (Appends (E.contents errors.old) (E.contents errors.new) (not_written_text name.now why.now)) }
-    ensures kept { E.failures errors.old ≤ E.failures errors.new }
-    ensures failed { OnErr result (E.failures errors.old < E.failures errors.new) }
+    ensures ok { OnOk result (Appends (E.seen errors.old).bytes (E.seen errors.new).bytes (not_written_text name.now why.now)) }
+    ensures kept { (E.seen errors.old).failures ≤ (E.seen errors.new).failures }
+    ensures failed { OnErr result ((E.seen errors.old).failures < (E.seen errors.new).failures) }
 {
     write_said_of(
         errors,
@@ -357,9 +357,9 @@ fn write_not_written<E: Output>(errors: &mut E, name: &str, why: &str) -> Result
 
 /// Writes what is wrong with a line of a script.
 fn write_line_fault<E: Output>(errors: &mut E, line: u64, why: &str) -> Result<(), Failed>
-    ensures ok { OnOk result (Appends (E.contents errors.old) (E.contents errors.new) (line_text line why.now)) }
-    ensures kept { E.failures errors.old ≤ E.failures errors.new }
-    ensures failed { OnErr result (E.failures errors.old < E.failures errors.new) }
+    ensures ok { OnOk result (Appends (E.seen errors.old).bytes (E.seen errors.new).bytes (line_text line why.now)) }
+    ensures kept { (E.seen errors.old).failures ≤ (E.seen errors.new).failures }
+    ensures failed { OnErr result ((E.seen errors.old).failures < (E.seen errors.new).failures) }
 {
     write_numbered(errors, b"line ", line, b": ")?;
     write_all(errors, why.as_bytes())?;
@@ -375,9 +375,9 @@ fn write_named<E: Output>(
     name: &[u8],
     back: &[u8],
 ) -> Result<(), Failed>
-    ensures ok { OnOk result (Appends (E.contents errors.old) (E.contents errors.new) (front.now ++ decimal number ++ middle.now ++ name.now ++ back.now)) }
-    ensures kept { E.failures errors.old ≤ E.failures errors.new }
-    ensures failed { OnErr result (E.failures errors.old < E.failures errors.new) }
+    ensures ok { OnOk result (Appends (E.seen errors.old).bytes (E.seen errors.new).bytes (front.now ++ decimal number ++ middle.now ++ name.now ++ back.now)) }
+    ensures kept { (E.seen errors.old).failures ≤ (E.seen errors.new).failures }
+    ensures failed { OnErr result ((E.seen errors.old).failures < (E.seen errors.new).failures) }
 {
     write_numbered(errors, front, number, middle)?;
     write_all(errors, name)?;
@@ -391,9 +391,9 @@ pub fn write_numbered<E: Output>(
     number: u64,
     back: &[u8],
 ) -> Result<(), Failed>
-    ensures ok { OnOk result (Appends (E.contents errors.old) (E.contents errors.new) (front.now ++ decimal number ++ back.now)) }
-    ensures kept { E.failures errors.old ≤ E.failures errors.new }
-    ensures failed { OnErr result (E.failures errors.old < E.failures errors.new) }
+    ensures ok { OnOk result (Appends (E.seen errors.old).bytes (E.seen errors.new).bytes (front.now ++ decimal number ++ back.now)) }
+    ensures kept { (E.seen errors.old).failures ≤ (E.seen errors.new).failures }
+    ensures failed { OnErr result ((E.seen errors.old).failures < (E.seen errors.new).failures) }
 {
     let mut digits = Buffer::new();
     write_all(errors, front)?;

@@ -2,6 +2,7 @@
 
 ghost use Rattle.std.specs.Prelude.{ℕ, Bool, List, ◌≡◌, ◌≤◌, ◌<◌, ◌++◌, ◌⊎◌, IfErr, IfOk, OnOk, OnErr, codes, vec_len};
 ghost use Rattle.std.specs.Io.KnownBytes.{Appends};
+ghost use Rattle.otp_ending.specs.Devices.{Files};
 ghost use Rattle.otp_ending.specs.Told.{IsUnkept, IsUnreadEnd, TellsFirst};
 ghost use Rattle.otp_ending.specs.Statuses.{not_read_text};
 ghost use Rattle.otp_ending.specs.declared.files.TheConstants.{LARGEST_TREE};
@@ -24,27 +25,24 @@ const TOO_LONG: &str = "it has more than 1048576 bytes, which a file may have";
 
 /// Where tree files are read from, and pages are written to.
 pub trait TreeFiles {
-    /// What a file of this name may hold.
-    ghost holds: { Self → List ℕ → List ℕ → Type 0 };
-
-    /// What is known of a file of this name to which these bytes were written.
-    ghost keeps: { Self → List ℕ → List ℕ → Type 0 };
+    /// What is known of files by their names: what bytes one may hold, and what of one to which such bytes were written.
+    ghost known: { Self → Files };
 
     /// The bytes of a file.
     fn read(&self, name: &str) -> io::Result<Vec<u8>>
-        ensures { IfOk result (λ file. holds self.now name.now file.items) };
+        ensures { IfOk result (λ file. (known self.now).holds name.now file.items) };
 
     /// The bytes of a tree file of this name. Of more than a tree file may have not all are read.
     fn read_tree(&self, name: &str) -> io::Result<Vec<u8>>
-        ensures { IfOk result (λ file. holds self.now name.now file.items) };
+        ensures { IfOk result (λ file. (known self.now).holds name.now file.items) };
 
     /// The bytes of standard input, which is the file `-`. Of more than a tree file may have not all are read.
     fn read_input(&self) -> io::Result<Vec<u8>>
-        ensures { IfOk result (λ file. holds self.now (codes "-") file.items) };
+        ensures { IfOk result (λ file. (known self.now).holds (codes "-") file.items) };
 
     /// Writes these bytes to the file of this name, and nothing of what it held stays.
     fn write(&self, name: &str, bytes: &[u8]) -> io::Result<()>
-        ensures { OnOk result (keeps self.now name.now bytes.now) };
+        ensures { OnOk result ((known self.now).keeps name.now bytes.now) };
 
     /// Whether somebody writes the lines of standard input at a terminal.
     fn is_terminal(&self) -> bool;
@@ -61,7 +59,7 @@ pub trait TreeFiles {
 
 /// The bytes of the file of this name; `-` is standard input.
 fn read_named<F: TreeFiles>(files: &F, name: &str) -> io::Result<Vec<u8>>
-    ensures { IfOk result (λ file. F.holds files.now name.now file.items) }
+    ensures { IfOk result (λ file. (F.known files.now).holds name.now file.items) }
 {
     match name.as_bytes() {
         b"-" => files.read_input(),
@@ -71,7 +69,7 @@ fn read_named<F: TreeFiles>(files: &F, name: &str) -> io::Result<Vec<u8>>
 
 /// The same of a tree file, of which no more bytes are read than show that it has too many.
 fn read_tree_named<F: TreeFiles>(files: &F, name: &str) -> io::Result<Vec<u8>>
-    ensures { IfOk result (λ file. F.holds files.now name.now file.items) }
+    ensures { IfOk result (λ file. (F.known files.now).holds name.now file.items) }
 {
     match name.as_bytes() {
         b"-" => files.read_input(),
@@ -89,11 +87,11 @@ pub fn read_file<'a, F: TreeFiles, E: Output>(
     name: &'a str,
     errors: &mut E,
 ) -> Result<Vec<u8>, ProgramEnd<'a>>
-    ensures holds { IfOk result (λ file. F.holds files.now name.now file.items) }
+    ensures holds { IfOk result (λ file. (F.known files.now).holds name.now file.items) }
     ensures silent { OnOk result (errors.new ≡ errors.old) }
     ensures ending { IfErr result (λ ending. (ending ≡ FileNotRead) ⊎ (ending ≡ OutOfMemory)) }
-    ensures first { IfErr result (λ ending. (drawn : Bool) → TellsFirst drawn ending (E.contents errors.old) (E.contents errors.new) (E.failures errors.old) (E.failures errors.new)) }
-    ensures kept { E.failures errors.old ≤ E.failures errors.new }
+    ensures first { IfErr result (λ ending. (drawn : Bool) → TellsFirst drawn ending (E.seen errors.old) (E.seen errors.new)) }
+    ensures kept { (E.seen errors.old).failures ≤ (E.seen errors.new).failures }
 {
     match read_named(files, name) {
         Ok(file) => Ok(file),
@@ -111,12 +109,12 @@ pub fn read_tree_file<'a, F: TreeFiles, E: Output>(
     name: &'a str,
     errors: &mut E,
 ) -> Result<Vec<u8>, ProgramEnd<'a>>
-    ensures holds { IfOk result (λ file. F.holds files.now name.now file.items) }
+    ensures holds { IfOk result (λ file. (F.known files.now).holds name.now file.items) }
     ensures small { IfOk result (λ file. vec_len file ≤ LARGEST_TREE) }
     ensures silent { OnOk result (errors.new ≡ errors.old) }
     ensures ending { IfErr result (λ ending. (ending ≡ FileNotRead) ⊎ (ending ≡ OutOfMemory)) }
-    ensures first { IfErr result (λ ending. (drawn : Bool) → TellsFirst drawn ending (E.contents errors.old) (E.contents errors.new) (E.failures errors.old) (E.failures errors.new)) }
-    ensures kept { E.failures errors.old ≤ E.failures errors.new }
+    ensures first { IfErr result (λ ending. (drawn : Bool) → TellsFirst drawn ending (E.seen errors.old) (E.seen errors.new)) }
+    ensures kept { (E.seen errors.old).failures ≤ (E.seen errors.new).failures }
 {
     match read_small(files, name) {
         Ok(file) => Ok(file),
@@ -136,11 +134,11 @@ pub fn read_log<'a, F: TreeFiles, E: Output>(
     name: &'a str,
     errors: &mut E,
 ) -> Result<Vec<u8>, ProgramEnd<'a>>
-    ensures holds { IfOk result (λ log. F.holds files.now name.now log.items) }
+    ensures holds { IfOk result (λ log. (F.known files.now).holds name.now log.items) }
     ensures silent { OnOk result (errors.new ≡ errors.old) }
     ensures ending { IfErr result (λ ending. (ending ≡ FileNotRead) ⊎ (ending ≡ OutOfMemory)) }
-    ensures first { IfErr result (λ ending. (drawn : Bool) → TellsFirst drawn ending (E.contents errors.old) (E.contents errors.new) (E.failures errors.old) (E.failures errors.new)) }
-    ensures kept { E.failures errors.old ≤ E.failures errors.new }
+    ensures first { IfErr result (λ ending. (drawn : Bool) → TellsFirst drawn ending (E.seen errors.old) (E.seen errors.new)) }
+    ensures kept { (E.seen errors.old).failures ≤ (E.seen errors.new).failures }
 {
     let log = match read_named(files, name) {
         Ok(log) => log,
@@ -163,7 +161,7 @@ pub fn write_page<'a, F: TreeFiles>(
     name: &'a str,
     page: &[u8],
 ) -> Result<(), ProgramEnd<'a>>
-    ensures kept { OnOk result (F.keeps files.now name.now page.now) }
+    ensures kept { OnOk result ((F.known files.now).keeps name.now page.now) }
     ensures ending { IfErr result (IsUnkept name.entry) }
 {
     match files.write(name, page) {
@@ -210,7 +208,7 @@ pub enum Unread {
 ///
 /// Why it can't be read, or that it is larger.
 pub fn read_small<F: TreeFiles>(files: &F, name: &str) -> Result<Vec<u8>, Unread>
-    ensures holds { IfOk result (λ file. F.holds files.now name.now file.items) }
+    ensures holds { IfOk result (λ file. (F.known files.now).holds name.now file.items) }
     ensures small { IfOk result (λ file. vec_len file ≤ LARGEST_TREE) }
 {
     let file = match read_tree_named(files, name) {
@@ -242,11 +240,11 @@ pub fn read_run_file<'a, F: TreeFiles, E: Output>(
     name: &'a str,
     errors: &mut E,
 ) -> Result<Vec<u8>, ProgramEnd<'a>>
-    ensures holds { IfOk result (λ file. F.holds files.now name.now file.items) }
+    ensures holds { IfOk result (λ file. (F.known files.now).holds name.now file.items) }
     ensures silent { OnOk result (errors.new ≡ errors.old) }
     ensures ending { IfErr result IsUnreadEnd }
-    ensures first { IfErr result (λ ending. (drawn : Bool) → TellsFirst drawn ending (E.contents errors.old) (E.contents errors.new) (E.failures errors.old) (E.failures errors.new)) }
-    ensures kept { E.failures errors.old ≤ E.failures errors.new }
+    ensures first { IfErr result (λ ending. (drawn : Bool) → TellsFirst drawn ending (E.seen errors.old) (E.seen errors.new)) }
+    ensures kept { (E.seen errors.old).failures ≤ (E.seen errors.new).failures }
 {
     if let b"-" = name.as_bytes() {
         return read_tree_file(files, name, errors);
@@ -260,8 +258,8 @@ pub fn read_run_file<'a, F: TreeFiles, E: Output>(
 /// The end where a file can't be read, once it is told which and why, if not for want of memory.
 fn tell_error<'a, E: Output>(errors: &mut E, name: &'a str, error: &io::Error) -> ProgramEnd<'a>
     ensures ending { (result ≡ FileNotRead) ⊎ (result ≡ OutOfMemory) }
-    ensures first { (drawn : Bool) → TellsFirst drawn result (E.contents errors.old) (E.contents errors.new) (E.failures errors.old) (E.failures errors.new) }
-    ensures kept { E.failures errors.old ≤ E.failures errors.new }
+    ensures first { (drawn : Bool) → TellsFirst drawn result (E.seen errors.old) (E.seen errors.new) }
+    ensures kept { (E.seen errors.old).failures ≤ (E.seen errors.new).failures }
 {
     match error.kind() {
         ErrorKind::OutOfMemory => ProgramEnd::OutOfMemory,
@@ -272,8 +270,8 @@ fn tell_error<'a, E: Output>(errors: &mut E, name: &'a str, error: &io::Error) -
 /// Tells which file can't be read, and why.
 fn tell_not_read<'a, E: Output>(errors: &mut E, name: &'a str, why: &str) -> ProgramEnd<'a>
     ensures ending { result ≡ FileNotRead }
-    ensures first { (drawn : Bool) → TellsFirst drawn result (E.contents errors.old) (E.contents errors.new) (E.failures errors.old) (E.failures errors.new) }
-    ensures kept { E.failures errors.old ≤ E.failures errors.new }
+    ensures first { (drawn : Bool) → TellsFirst drawn result (E.seen errors.old) (E.seen errors.new) }
+    ensures kept { (E.seen errors.old).failures ≤ (E.seen errors.new).failures }
 {
     // Where nothing can be told, the status alone says it.
     let _told = write_not_read(errors, name, why);
@@ -293,9 +291,9 @@ fn why(kind: ErrorKind) -> &'static str {
 
 /// Writes which file can't be read, and why.
 fn write_not_read<E: Output>(errors: &mut E, name: &str, why: &str) -> Result<(), Failed>
-    ensures ok { OnOk result (Appends (E.contents errors.old) (E.contents errors.new) (not_read_text name.now why.now)) }
-    ensures kept { E.failures errors.old ≤ E.failures errors.new }
-    ensures failed { OnErr result (E.failures errors.old < E.failures errors.new) }
+    ensures ok { OnOk result (Appends (E.seen errors.old).bytes (E.seen errors.new).bytes (not_read_text name.now why.now)) }
+    ensures kept { (E.seen errors.old).failures ≤ (E.seen errors.new).failures }
+    ensures failed { OnErr result ((E.seen errors.old).failures < (E.seen errors.new).failures) }
 {
     write_three(errors, b"error: ", name.as_bytes(), b" can't be read: ")?;
     write_two(errors, why.as_bytes(), b"\n")
@@ -308,9 +306,9 @@ pub fn write_three<E: Output>(
     text: &[u8],
     back: &[u8],
 ) -> Result<(), Failed>
-    ensures ok { OnOk result (Appends (E.contents errors.old) (E.contents errors.new) (front.now ++ text.now ++ back.now)) }
-    ensures kept { E.failures errors.old ≤ E.failures errors.new }
-    ensures failed { OnErr result (E.failures errors.old < E.failures errors.new) }
+    ensures ok { OnOk result (Appends (E.seen errors.old).bytes (E.seen errors.new).bytes (front.now ++ text.now ++ back.now)) }
+    ensures kept { (E.seen errors.old).failures ≤ (E.seen errors.new).failures }
+    ensures failed { OnErr result ((E.seen errors.old).failures < (E.seen errors.new).failures) }
 {
     write_all(errors, front)?;
     write_all(errors, text)?;
@@ -319,9 +317,9 @@ pub fn write_three<E: Output>(
 
 /// Writes two texts.
 pub(crate) fn write_two<E: Output>(errors: &mut E, text: &[u8], back: &[u8]) -> Result<(), Failed>
-    ensures ok { OnOk result (Appends (E.contents errors.old) (E.contents errors.new) (text.now ++ back.now)) }
-    ensures kept { E.failures errors.old ≤ E.failures errors.new }
-    ensures failed { OnErr result (E.failures errors.old < E.failures errors.new) }
+    ensures ok { OnOk result (Appends (E.seen errors.old).bytes (E.seen errors.new).bytes (text.now ++ back.now)) }
+    ensures kept { (E.seen errors.old).failures ≤ (E.seen errors.new).failures }
+    ensures failed { OnErr result ((E.seen errors.old).failures < (E.seen errors.new).failures) }
 {
     write_all(errors, text)?;
     write_all(errors, back)

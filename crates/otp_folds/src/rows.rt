@@ -2,9 +2,7 @@
 
 ghost use Rattle.std.specs.Prelude.{◌≡◌, ◌++◌, List, [], None, IfOk, OnOk, length};
 ghost use Rattle.otp_folds.specs.Groups.{is_wanted};
-ghost use Rattle.otp_folds.specs.Ranks.{ranked};
-ghost use Rattle.otp_folds.specs.Rows.{AreRows, AreRowsFrom, HasRow, HaveRows, IsRow, groups_in, is_worse};
-ghost use Rattle.otp_folds.specs.declared.rows.Row.{Row as RowIn};
+ghost use Rattle.otp_folds.specs.Rows.{AreRows, AreRowsFrom, HasRow, HaveRows, IsRow, PutsRanked, groups_in};
 
 use crate::alike::Grain;
 use crate::group::{Group, find_groups};
@@ -97,7 +95,7 @@ fn put_row_if(
     is_wanted: bool,
     rows: &mut Vec<Row>,
 ) -> Result<(), Halt>
-    ensures { OnOk result ((own : List RowIn) × (HasRow is_wanted tree.now place seat.now group.now own × (rows.new.items ≡ ranked is_worse rows.old.items own))) }
+    ensures { OnOk result (PutsRanked (HasRow is_wanted tree.now place seat.now group.now) rows.old.items rows.new.items) }
 {
     if is_wanted {
         let row = find_row(alloc, tree, place, seat, group)?;
@@ -117,8 +115,8 @@ fn put_row(
     word: &mut Vec<u8>,
     rows: &mut Vec<Row>,
 ) -> Result<(), Halt>
-    ensures { OnOk result ((own : List RowIn) × (HasRow (is_wanted pick.now seat.now.path group.now.names) tree.now place seat.now group.now own
-        × (rows.new.items ≡ ranked is_worse rows.old.items own))) }
+    ensures { OnOk result (PutsRanked (HasRow (is_wanted pick.now seat.now.path group.now.names) tree.now place seat.now group.now)
+        rows.old.items rows.new.items) }
 {
     let is_wanted = is_asked_for(pick, seat, group, word)?;
     put_row_if(alloc, tree, place, seat, group, is_wanted, rows)
@@ -134,8 +132,7 @@ fn put_rows(
     groups: &[Group],
     rows: &mut Vec<Row>,
 ) -> Result<(), Halt>
-    ensures { OnOk result ((each : List RowIn) × (HaveRows pick.now tree.now place seat.now groups.now each
-        × (rows.new.items ≡ ranked is_worse rows.old.items each))) }
+    ensures { OnOk result (PutsRanked (HaveRows pick.now tree.now place seat.now groups.now) rows.old.items rows.new.items) }
 {
     let mut word = Vec::new(alloc);
     for at in 0..groups.len() {
@@ -154,8 +151,7 @@ fn put_seat(
     seat: &Seat,
     rows: &mut Vec<Row>,
 ) -> Result<(), Halt>
-    ensures { OnOk result ((each : List RowIn) × (HaveRows pick.now tree.now place seat.now (groups_in grain seat.now) each
-        × (rows.new.items ≡ ranked is_worse rows.old.items each))) }
+    ensures { OnOk result (PutsRanked (HaveRows pick.now tree.now place seat.now (groups_in grain seat.now)) rows.old.items rows.new.items) }
 {
     let groups = find_groups(alloc, grain, seat.supervisor())?;
     let put = put_rows(alloc, pick, tree, place, seat, groups.as_slice(), rows);

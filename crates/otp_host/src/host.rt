@@ -32,12 +32,12 @@ pub fn otp<H: Threads + Wait + Clock + Sync>(rt: &HostRuntime, threads: &H) -> E
     let mut errors = Counted::new(rt.stderr());
     let pool = Pool {
         rt: threads,
+        alloc: rt.alloc(),
         gate: &Screen::start(rt),
         watch: &LogLines::to(rt, rt.alloc()),
     };
     let status = run(
         &pool,
-        rt.alloc(),
         words_of(rt),
         &system,
         &mut input,
@@ -128,9 +128,7 @@ struct System<'a> {
 
 /// The files of the system, of which nothing is known beforehand.
 impl TreeFiles for System<'_> {
-    ghost holds = { λ _ _ _. Unit {0} };
-
-    ghost keeps = { λ _ _ _. Unit {0} };
+    ghost known = { λ _. record { holds = λ _ _. Unit {0}; keeps = λ _ _. Unit {0} } };
 
     fn read(&self, name: &str) -> io::Result<Vec<u8>> {
         fs::read(self.rt, name)

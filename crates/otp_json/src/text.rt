@@ -23,8 +23,8 @@ fn digit(number: u8) -> u8 {
 
 /// Writes a byte that can't stand there as it is.
 fn write_special<W: Output>(output: &mut W, byte: u8) -> Result<(), Failed>
-    ensures failed { OnErr result (W.failures output.old < W.failures output.new) }
-    ensures kept { W.failures output.old ≤ W.failures output.new }
+    ensures failed { OnErr result ((W.seen output.old).failures < (W.seen output.new).failures) }
+    ensures kept { (W.seen output.old).failures ≤ (W.seen output.new).failures }
 {
     if byte == b'"' || byte == b'\\' {
         return write_all(output, &[b'\\', byte]);
@@ -35,8 +35,8 @@ fn write_special<W: Output>(output: &mut W, byte: u8) -> Result<(), Failed>
 
 /// Writes the front of a text, as far as it can stand as it is, and what comes behind that; gives what is left.
 fn write_front<'a, W: Output>(output: &mut W, text: &'a [u8]) -> Result<&'a [u8], Failed>
-    ensures failed { OnErr result (W.failures output.old < W.failures output.new) }
-    ensures kept { W.failures output.old ≤ W.failures output.new }
+    ensures failed { OnErr result ((W.seen output.old).failures < (W.seen output.new).failures) }
+    ensures kept { (W.seen output.old).failures ≤ (W.seen output.new).failures }
 {
     let Some(place) = text.iter().position(|byte| is_special(*byte)) else {
         write_all(output, text)?;
@@ -55,8 +55,8 @@ fn write_front<'a, W: Output>(output: &mut W, text: &'a [u8]) -> Result<&'a [u8]
 ///
 /// Where the output fails.
 pub fn write_json_text<W: Output>(output: &mut W, text: &[u8]) -> Result<(), Failed>
-    ensures failed { OnErr result (W.failures output.old < W.failures output.new) }
-    ensures kept { W.failures output.old ≤ W.failures output.new }
+    ensures failed { OnErr result ((W.seen output.old).failures < (W.seen output.new).failures) }
+    ensures kept { (W.seen output.old).failures ≤ (W.seen output.new).failures }
 {
     write_all(output, b"\"")?;
     let mut rest = text;
@@ -75,8 +75,8 @@ pub fn write_json_text<W: Output>(output: &mut W, text: &[u8]) -> Result<(), Fai
 ///
 /// Where the output fails.
 pub fn write_json_line<W: Output>(output: &mut W, line: Option<u64>) -> Result<(), Failed>
-    ensures failed { OnErr result (W.failures output.old < W.failures output.new) }
-    ensures kept { W.failures output.old ≤ W.failures output.new }
+    ensures failed { OnErr result ((W.seen output.old).failures < (W.seen output.new).failures) }
+    ensures kept { (W.seen output.old).failures ≤ (W.seen output.new).failures }
 {
     match line {
         None => write_all(output, b"null"),

@@ -24,7 +24,7 @@ ghost use Rattle.otp_rules.specs.declared.event.Waiting.TheVariants as waiting;
 ghost use Rattle.otp_table.specs.declared.row.Row.{Row};
 ghost use Rattle.otp_table.specs.declared.row.RowState.TheVariants.{Up};
 
-use crate::waited::{has_other_awaited, have_ended, have_ended_with, restart_goes_on};
+use crate::waited::{Span, has_other_awaited, have_ended, have_ended_with, restart_goes_on};
 use otp_decisions::restarts::{affected, is_restarted};
 use otp_decisions::state::is_over;
 use otp_machine::Machine;
@@ -137,9 +137,7 @@ fn restart_starts(machine: &Machine, place: usize, now: u64, resumed: bool) -> b
     let (from, to) = affected(machine.strategy, place, machine.rows.len());
     restart_goes_on(
         machine.rows.as_slice(),
-        from,
-        place,
-        to,
+        Span { from, place, to },
         &machine.waiting,
         resumed,
     )

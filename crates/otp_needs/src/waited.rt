@@ -1,21 +1,19 @@
 //! Which ends wait: what the open work asks before it goes on, without using any of them.
 
-ghost use Rattle.std.specs.Prelude.{ℕ, ◌∷◌, [], ◌&&◌, Some, slice_get, slice_set, ◌≡◌, ◌+◌, ◌++◌, ◌==◌, ◌||◌, ◌<◌, ◌≤◌, ◌^◌, count_by, cond, drop, length, nat_le, remove, reverse, slice_range, take, not};
+ghost use Rattle.std.specs.Prelude.{◌∷◌, [], ◌≡◌, ◌+◌, ◌++◌, ◌==◌, ◌||◌, ◌<◌, ◌≤◌, ◌^◌, count_by, cond, drop, length, nat_le, remove, reverse, take, not};
 ghost use Rattle.std.specs.List.{list_all, list_any};
-ghost use Rattle.otp_table.specs.Rows.{is_awaited, row_has, up_number, with_state};
-ghost use Rattle.otp_table.specs.declared.row.Row.{Row};
-ghost use Rattle.otp_table.specs.declared.row.RowState.TheVariants.{Undefined};
+ghost use Rattle.otp_table.specs.Rows.{is_awaited, row_has, up_number};
 ghost use Rattle.otp_reason.specs.declared.reason.Reason.{Reason};
 ghost use Rattle.otp_reason.specs.declared.note.Note.TheVariants as note;
 ghost use Rattle.otp_rules.specs.declared.event.Item.TheVariants as item;
 ghost use Rattle.otp_rules.specs.declared.event.Waiting.TheVariants as wait;
-ghost use Rattle.otp_needs.specs.Restarted.{restart_goes_on};
+ghost use Rattle.otp_needs.specs.Restarted.{SaysRestart, others_have_ended};
 ghost use Rattle.otp_rules.specs.Needs.{ends_wait};
 ghost use Rattle.otp_rules.specs.Places.{is_temporary};
 ghost use Rattle.otp_rules.specs.Restarts.{running};
 ghost use Rattle.otp_rules.specs.Stops.{is_exit};
 ghost use Rattle.otp_needs.specs.Begun.{left};
-ghost use Rattle.otp_needs.specs.Ups.{ends_counted, passes};
+ghost use Rattle.otp_needs.specs.Ups.{ends_counted, has_ends, passes};
 ghost use Rattle.otp_rules.specs.Fit.{runs_as};
 
 use otp_decisions::places::is_temporary;
@@ -121,8 +119,7 @@ fn count_up(rows: &[Row], number: u64) -> usize
 
 /// Whether ends wait for a child that runs, as many as there are children of its number among these.
 fn has_ended(state: RowState, front: &[Row], back: &[Row], waiting: &Waits, resumed: bool) -> bool
-    ensures { result ≡ passes (λ p. nat_le (count_by (λ row. runs_as p row.state) front.now + count_by (λ row. runs_as p row.state) back.now)
-        (count_by (is_exit p) (left resumed waiting.now.items))) (up_number state) }
+    ensures { result ≡ passes (has_ends front.now back.now (left resumed waiting.now.items)) (up_number state) }
 {
     match state {
         RowState::Up(p) => count_up(front, p) + count_up(back, p)
@@ -132,8 +129,7 @@ fn has_ended(state: RowState, front: &[Row], back: &[Row], waiting: &Waits, resu
 }
 
 fn each_has_ended(rows: &[Row], front: &[Row], back: &[Row], waiting: &Waits, resumed: bool) -> bool
-    ensures { result ≡ list_all (λ row. passes (λ p. nat_le (count_by (λ row. runs_as p row.state) front.now + count_by (λ row. runs_as p row.state) back.now)
-        (count_by (is_exit p) (left resumed waiting.now.items))) (up_number row.state)) rows.now }
+    ensures { result ≡ list_all (λ row. passes (has_ends front.now back.now (left resumed waiting.now.items)) (up_number row.state)) rows.now }
 {
     rows.iter()
         .all(|row| has_ended(row.state, front, back, waiting, resumed))
@@ -147,41 +143,33 @@ pub fn children_have_ended(front: &[Row], back: &[Row], waiting: &Waits, resumed
         && each_has_ended(back, front, back, waiting, resumed)
 }
 
-/// Whether the children from one place to another, beside the one at the place, have ended and one of them all lasts.
-fn others_have_ended(
-    rows: &[Row],
-    from: usize,
-    place: usize,
-    to: usize,
-    waiting: &Waits,
-    resumed: bool,
-) -> bool
-    requires from { from ≤ place }
-    requires place { place < to }
-    requires to { to ≤ length rows.now }
-    ensures { result ≡ (not (list_any (row_has is_awaited) (remove rows.now place))
-        && (ends_wait (running (slice_range rows.now from place) ++ running (slice_range rows.now (place + 1) to)) (left resumed waiting.now.items)
-        && list_any (λ row. not (is_temporary row.spec.restart)) (slice_range rows.now from to))) }
+/// Children that one of them restarts: those from one place to another, and the place of that one.
+#[derive(Clone, Copy)]
+pub struct Span {
+    pub from: usize,
+    pub place: usize,
+    pub to: usize,
+}
+
+/// Whether the children of the span, beside the one at its place, have ended and one of them all lasts.
+fn others_have_ended(rows: &[Row], span: Span, waiting: &Waits, resumed: bool) -> bool
+    requires from { span.from ≤ span.place }
+    requires place { span.place < span.to }
+    requires to { span.to ≤ length rows.now }
+    ensures { result ≡ others_have_ended span.from span.place span.to rows.now (left resumed waiting.now.items) }
 {
+    let Span { from, place, to } = span;
     !has_other_awaited(rows, place)
         && children_have_ended(&rows[from..place], &rows[place + 1..to], waiting, resumed)
         && has_lasting(&rows[from..to])
 }
 
-/// Whether a restart of the children from one place to another goes on to a start at once.
-pub fn restart_goes_on(
-    rows: &[Row],
-    from: usize,
-    place: usize,
-    to: usize,
-    waiting: &Waits,
-    resumed: bool,
-) -> bool
-    requires from { from ≤ place }
-    requires place { place < to }
-    requires to { to ≤ length rows.now }
-    ensures { (kept : ℕ) (row : Row) → slice_get rows.now place ≡ Some row →
-        result ≡ restart_goes_on from to place kept (slice_set rows.now place (with_state Undefined row)) (left resumed waiting.now.items) }
+/// Whether a restart of the children of the span goes on to a start at once.
+pub fn restart_goes_on(rows: &[Row], span: Span, waiting: &Waits, resumed: bool) -> bool
+    requires from { span.from ≤ span.place }
+    requires place { span.place < span.to }
+    requires to { span.to ≤ length rows.now }
+    ensures { SaysRestart result span.from span.place span.to rows.now (left resumed waiting.now.items) }
 {
-    others_have_ended(rows, from, place, to, waiting, resumed)
+    others_have_ended(rows, span, waiting, resumed)
 }

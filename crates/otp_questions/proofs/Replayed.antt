@@ -1,9 +1,9 @@
 -- What came of a replay of a log, by how it ended.
 use Rattle.std.proofs.Common.{ℕ, inr, Bool, List}
 use Rattle.std.specs.Borrow.{Bor}
+use Rattle.otp_sim.specs.Devices.{Written}
 use Rattle.otp_try.specs.declared.play.TryEnd.{TryEnd}
 use Rattle.otp_try.specs.declared.play.TryEnd.TheVariants as trial
-use Rattle.otp_ending.specs.Devices.{Written}
 use Rattle.otp_questions.specs.Replayed.{IsReplay, WasReplayed}
 use Rattle.otp_questions.specs.Tried.{ending_of_try}
 

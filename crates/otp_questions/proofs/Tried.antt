@@ -1,6 +1,6 @@
 -- What came of a trial of a tree, by how it ended.
 use Rattle.std.proofs.Common.{ℕ, inr, List}
-use Rattle.otp_sim.specs.Runs.{Devices}
+use Rattle.otp_sim.specs.Devices.{Devices}
 use Rattle.otp_try.specs.declared.play.TryEnd.{TryEnd}
 use Rattle.otp_try.specs.declared.play.TryEnd.TheVariants as trial
 use Rattle.otp_questions.specs.Tried.{IsTrial, WasTried, ending_of_try}

@@ -2,10 +2,11 @@
 use Rattle.std.specs.Prelude.{◌≡◌, ◌⊎◌, ℕ, ◌<◌, List, [], Ok}
 use Rattle.std.specs.Io.KnownBytes.{Appends}
 use Rattle.otp_check.specs.Checks.{IsFirstFault}
+use Rattle.otp_sim.specs.Devices.{Written}
 use Rattle.otp_diff.specs.Differs.{Differs}
 use Rattle.otp_file.specs.Files.{Says}
 use Rattle.otp_file.specs.Trees.{Tree}
-use Rattle.otp_ending.specs.Devices.{HasTree, Written}
+use Rattle.otp_ending.specs.Devices.{HasTree}
 use Rattle.otp_ending.specs.declared.ending.ProgramEnd.{ProgramEnd}
 use Rattle.otp_ending.specs.declared.ending.ProgramEnd.TheVariants.{Done, NoTree, HistoryFull, OutputFailed, OutOfMemory}
 

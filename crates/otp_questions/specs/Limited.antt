@@ -4,6 +4,7 @@ use Rattle.std.specs.Io.KnownBytes.{Appends}
 use Rattle.std.specs.Borrow.{Bor}
 use Rattle.otp_file.specs.Files.{Says}
 use Rattle.otp_file.specs.Trees.{Tree}
+use Rattle.otp_sim.specs.Devices.{Written}
 use Rattle.otp_folds.specs.Told.{Tells}
 use Rattle.otp_folds.specs.declared.alike.Grain.{Grain}
 use Rattle.otp_folds.specs.declared.pick.Pick.{Pick}
@@ -12,7 +13,7 @@ use Rattle.otp_objects.specs.Limits.{TellsObject}
 use Rattle.otp_trial.specs.declared.trial.Halt.{Halt}
 use Rattle.otp_trial.specs.declared.trial.Halt.TheVariants as halt
 use Rattle.otp_ending.specs.declared.ending.ProgramEnd.{ProgramEnd}
-use Rattle.otp_ending.specs.Devices.{HasTree, Written}
+use Rattle.otp_ending.specs.Devices.{HasTree}
 use Rattle.otp_ending.specs.declared.ending.ProgramEnd.TheVariants.{Done, NotFound, HistoryFull, OutOfMemory}
 use Rattle.otp_questions.specs.Said.{IsNotSaid}
 

@@ -1,6 +1,7 @@
 -- Pages of HTML, and objects, that are made of a file and not yet written (own).
 use Rattle.std.specs.Prelude.{◌≡◌, ◌⊎◌, ℕ, ◌<◌, true, false, List, [], Ok}
 use Rattle.std.specs.Io.KnownBytes.{Appends}
+use Rattle.otp_sim.specs.Devices.{Written}
 use Rattle.otp_account.specs.Accounts.{IsAccount}
 use Rattle.otp_account.specs.declared.account.Account.{Account}
 use Rattle.otp_check.specs.Checks.{IsFirstFault}
@@ -12,7 +13,7 @@ use Rattle.otp_pages.specs.Costs.{TellsLimits}
 use Rattle.otp_pages.specs.Trees.{TellsTree}
 use Rattle.otp_tried.specs.Objects.{TellsRun}
 use Rattle.otp_tried.specs.Timeline.{timeline_page}
-use Rattle.otp_ending.specs.Devices.{HasTree, Written}
+use Rattle.otp_ending.specs.Devices.{HasTree}
 use Rattle.otp_ending.specs.declared.ending.ProgramEnd.{ProgramEnd}
 use Rattle.otp_ending.specs.declared.ending.ProgramEnd.TheVariants.{Done, NoTree, NotFound, HistoryFull, OutputFailed, OutOfMemory}
 use Rattle.otp_questions.specs.Limited.{IsNameOf}

@@ -4,12 +4,13 @@ use Rattle.std.specs.Borrow.{Bor}
 use Rattle.otp_check.specs.Checks.{IsFirstFault}
 use Rattle.otp_file.specs.Files.{Says}
 use Rattle.otp_file.specs.Trees.{Tree}
+use Rattle.otp_sim.specs.Devices.{Written}
 use Rattle.otp_replay.specs.Logs.{log_in}
 use Rattle.otp_replay.specs.Told.{Replays}
 use Rattle.otp_replay.specs.declared.played.ReplayEnd.TheVariants.{Tried}
 use Rattle.otp_try.specs.declared.play.TryEnd.{TryEnd}
 use Rattle.otp_try.specs.declared.play.TryEnd.TheVariants as trial
-use Rattle.otp_ending.specs.Devices.{HasTree, Written}
+use Rattle.otp_ending.specs.Devices.{HasTree}
 use Rattle.otp_ending.specs.declared.ending.ProgramEnd.{ProgramEnd}
 use Rattle.otp_ending.specs.declared.ending.ProgramEnd.TheVariants.{Done, NoTree, LogRefused, ScriptRefused, ScriptMissed, ExpectationFailed, HistoryFull, InputFailed, OutputFailed, OutOfMemory}
 

@@ -1,7 +1,8 @@
 -- What is said of the tree of a file, or that it could not be (own).
 use Rattle.std.specs.Prelude.{◌≡◌, ℕ, ◌<◌, List}
 use Rattle.otp_check.specs.Checks.{IsFirstFault}
-use Rattle.otp_ending.specs.Devices.{HasTree, Written}
+use Rattle.otp_sim.specs.Devices.{Written}
+use Rattle.otp_ending.specs.Devices.{HasTree}
 use Rattle.otp_ending.specs.declared.ending.ProgramEnd.{ProgramEnd}
 use Rattle.otp_ending.specs.declared.ending.ProgramEnd.TheVariants.{Done, NoTree, OutputFailed, OutOfMemory}
 

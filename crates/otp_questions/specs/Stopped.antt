@@ -3,8 +3,8 @@ use Rattle.std.specs.Prelude.{ℕ, List, [], Ok}
 use Rattle.std.specs.Io.KnownBytes.{Appends}
 use Rattle.otp_file.specs.Files.{Says}
 use Rattle.otp_file.specs.Trees.{Tree}
+use Rattle.otp_sim.specs.Devices.{Written}
 use Rattle.otp_stops.specs.Told.{TellsStops}
-use Rattle.otp_ending.specs.Devices.{Written}
 use Rattle.otp_ending.specs.declared.ending.ProgramEnd.{ProgramEnd}
 use Rattle.otp_ending.specs.declared.ending.ProgramEnd.TheVariants.{Done}
 use Rattle.otp_questions.specs.Said.{IsNotSaid}

@@ -4,11 +4,12 @@ use Rattle.std.specs.Borrow.{Bor}
 use Rattle.std.specs.Io.KnownBytes.{Appends}
 use Rattle.otp_file.specs.Files.{Says}
 use Rattle.otp_file.specs.Trees.{Tree}
+use Rattle.otp_sim.specs.Devices.{Written}
 use Rattle.otp_suggest.specs.Gaps.{gap_in}
 use Rattle.otp_suggest.specs.Told.{Suggests}
 use Rattle.otp_suggest.specs.declared.refused.Answer.{Answer}
 use Rattle.otp_suggest.specs.declared.refused.Answer.TheVariants.{Told, NoChild, IsSupervisor}
-use Rattle.otp_ending.specs.Devices.{HasTree, Written}
+use Rattle.otp_ending.specs.Devices.{HasTree}
 use Rattle.otp_ending.specs.declared.ending.ProgramEnd.{ProgramEnd}
 use Rattle.otp_ending.specs.declared.ending.ProgramEnd.TheVariants.{Done, NotFound, NamesSupervisor, NotAGap, HistoryFull}
 use Rattle.otp_questions.specs.Said.{IsNotSaid}

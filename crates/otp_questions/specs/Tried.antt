@@ -3,7 +3,7 @@ use Rattle.std.specs.Prelude.{◌≡◌, ◌⊎◌, ℕ, Bool, List, Ok}
 use Rattle.otp_check.specs.Checks.{IsFirstFault}
 use Rattle.otp_file.specs.Files.{Says}
 use Rattle.otp_file.specs.Trees.{Tree}
-use Rattle.otp_sim.specs.Runs.{Devices}
+use Rattle.otp_sim.specs.Devices.{Devices}
 use Rattle.otp_try.specs.Pages.{Tries}
 use Rattle.otp_try.specs.declared.play.TryEnd.{TryEnd}
 use Rattle.otp_try.specs.declared.play.TryEnd.TheVariants as trial
@@ -24,7 +24,7 @@ ending_of_try trial.OutOfMemory = OutOfMemory
 -- the file says a tree, and what was written is a run of its supervisors that ended so: all their orders, or their ends alone
 abbrev pub WasTried : TryEnd → List ℕ → Devices → Devices → Type 0
 WasTried end file old new =
-    (tree : Tree) × (Says file (Ok tree) × ((tells : Bool) × Tries end tree tells old.written new.written))
+    (tree : Tree) × (Says file (Ok tree) × ((tells : Bool) × Tries end tree tells old.output.bytes new.output.bytes))
 
 -- the tree of the file of this name was tried by the lines of a script; want of memory may end it before, and says nothing of
 -- the file

@@ -15,10 +15,10 @@ pub mod trying;
 
 pub use comparing::compare_files;
 pub use drawing::draw_file;
-pub use limiting::{end_of_halt, limit_file};
+pub use limiting::{Asking, end_of_halt, limit_file};
 pub use paging::{page_of_limits, page_of_tree};
 pub use playing::{page_of_run, tell_run};
-pub use replaying::replay_file;
+pub use replaying::{Log, replay_file};
 pub use stopping::stop_file;
 pub use suggesting::suggest_file;
 pub use trying::try_file;

@@ -14,6 +14,14 @@ use otp_sim::{Failed, Output, write_all};
 use otp_trial::Halt;
 use std::alloc::Global;
 
+/// What is asked of a tree's failures: of which children, how finely, and whether the answer is an object of JSON.
+#[derive(Clone, Copy)]
+pub struct Asking<'a> {
+    pub pick: Pick<'a>,
+    pub grain: Grain,
+    pub is_json: bool,
+}
+
 /// Appends the limits of those children of a tree that are asked for, as a table or as an object, and says whether there are any.
 #[tactic(auto, unfolding(otp_folds::specs::Told::TellsRows, otp_objects::specs::Limits::TellsRows))]
 fn tell_limits<P: Progress>(
@@ -42,16 +50,19 @@ pub fn limit_file<'a, P: Progress, W: Output>(
     alloc: Global,
     name: &'a str,
     file: &[u8],
-    pick: Pick<'a>,
-    grain: Grain,
-    is_json: bool,
+    asking: Asking<'a>,
     progress: &P,
     output: &mut W,
 ) -> ProgramEnd<'a>
-    ensures { IsLimited is_json grain pick.entry name.now result file.now
-        (record { bytes = W.contents output.old; failures = W.failures output.old })
-        (record { bytes = W.contents output.new; failures = W.failures output.new }) }
+    ensures { IsLimited asking.entry.is_json asking.entry.grain asking.entry.pick name.now result file.now
+        (W.seen output.old)
+        (W.seen output.new) }
 {
+    let Asking {
+        pick,
+        grain,
+        is_json,
+    } = asking;
     let tree = match read_tree(alloc, file) {
         Ok(tree) => tree,
         Err(fault) => return ProgramEnd::of_no_tree(fault, name),

@@ -47,8 +47,8 @@ pub fn tell_run<'a, W: Output>(
     output: &mut W,
 ) -> ProgramEnd<'a>
     ensures { IsRunTold name.now result file.now
-        (record { bytes = W.contents output.old; failures = W.failures output.old })
-        (record { bytes = W.contents output.new; failures = W.failures output.new }) }
+        (W.seen output.old)
+        (W.seen output.new) }
 {
     let account = match run_of(alloc, name, file, script, clock) {
         Ok(account) => account,

@@ -16,8 +16,8 @@ pub fn stop_file<'a, W: Output>(
     output: &mut W,
 ) -> ProgramEnd<'a>
     ensures { IsStopped name.now result file.now
-        (record { bytes = W.contents output.old; failures = W.failures output.old })
-        (record { bytes = W.contents output.new; failures = W.failures output.new }) }
+        (W.seen output.old)
+        (W.seen output.new) }
 {
     let tree = match read_tree(alloc, file) {
         Ok(tree) => tree,

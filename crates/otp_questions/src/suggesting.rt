@@ -19,8 +19,8 @@ pub fn suggest_file<'a, W: Output>(
     output: &mut W,
 ) -> ProgramEnd<'a>
     ensures { IsSuggested child.entry every.entry name.now result file.now
-        (record { bytes = W.contents output.old; failures = W.failures output.old })
-        (record { bytes = W.contents output.new; failures = W.failures output.new }) }
+        (W.seen output.old)
+        (W.seen output.new) }
 {
     let gap = match read_gap(every) {
         Ok(gap) => gap,

@@ -1,12 +1,13 @@
 //! `try`: what would a tree do?
 
 ghost use Rattle.std.specs.Prelude.{◌≡◌};
+ghost use Rattle.otp_sim.specs.Devices.{devices};
 ghost use Rattle.otp_questions.specs.Tried.{IsTrial, ending_of_try};
 
 use otp_ending::ProgramEnd;
 use otp_file::read_tree;
 use otp_sim::{Input, Output};
-use otp_try::{Clock, Shows, TryEnd, Writer, try_tree};
+use otp_try::{Playing, TryEnd, try_tree};
 use std::alloc::Global;
 
 /// Reads the tree of a file, and plays the lines of a script on its supervisor.
@@ -14,21 +15,19 @@ pub fn try_file<'a, R: Input, W: Output>(
     alloc: Global,
     name: &'a str,
     file: &[u8],
-    writer: Writer,
-    shows: Shows,
-    clock: Clock,
+    playing: Playing,
     script: &mut R,
     output: &mut W,
 ) -> ProgramEnd<'a>
     ensures { IsTrial name.now result file.now
-        (record { left = R.remaining script.old; written = W.contents output.old; read_failures = R.failures script.old; write_failures = W.failures output.old })
-        (record { left = R.remaining script.new; written = W.contents output.new; read_failures = R.failures script.new; write_failures = W.failures output.new }) }
+        (devices (R.seen script.old) (W.seen output.old))
+        (devices (R.seen script.new) (W.seen output.new)) }
 {
     let tree = match read_tree(alloc, file) {
         Ok(tree) => tree,
         Err(fault) => return ProgramEnd::of_no_tree(fault, name),
     };
-    end_of_try(try_tree(alloc, tree, writer, shows, clock, script, output))
+    end_of_try(try_tree(alloc, tree, playing, script, output))
 }
 
 /// The end of a trial.

@@ -12,6 +12,6 @@ mod stamp;
 mod words;
 
 pub use entry::LONGEST_ENTRY;
-pub use played::{ReplayEnd, replay};
+pub use played::{ReplayEnd, Replaying, replay};
 pub use reading::{Counts, LogFault, Reading, read_log};
 pub use stamp::{MOST_SECONDS, Stamp};

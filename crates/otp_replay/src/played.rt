@@ -11,7 +11,7 @@ use crate::reading::{LogFault, Reading, read_log};
 use otp_file::TreeSpec;
 use otp_sim::{Counted, Output, write_all};
 use otp_text::write_number;
-use otp_try::{Clock, Shows, TryEnd, Writer, try_tree};
+use otp_try::{Clock, Playing, Shows, TryEnd, Writer, try_tree};
 use std::alloc::{AllocError, Global};
 
 /// How a replay ended.
@@ -109,7 +109,7 @@ fn tail_of(alloc: Global, is_listed: bool, log: &Reading) -> Result<Vec<u8>, All
 
 /// Writes what stands behind a run that was played to its end.
 fn close<W: Output>(tried: TryEnd, tail: &[u8], output: &mut W) -> TryEnd
-    ensures { Closes tried result tail.now (W.contents output.old) (W.contents output.new) }
+    ensures { Closes tried result tail.now (W.seen output.old).bytes (W.seen output.new).bytes }
 {
     match tried {
         TryEnd::Done | TryEnd::ExpectationFailed(_) => match write_all(output, tail) {
@@ -120,32 +120,35 @@ fn close<W: Output>(tried: TryEnd, tail: &[u8], output: &mut W) -> TryEnd
     }
 }
 
+/// How a log is played: what of the run is written, by which clock, and whether the lines are listed that weren't played.
+#[derive(Clone, Copy, Debug, PartialEq, Eq)]
+pub struct Replaying {
+    pub shows: Shows,
+    pub clock: Clock,
+    pub is_listed: bool,
+}
+
 /// Tries the script of a log that was read.
 fn play_log<W: Output>(
     alloc: Global,
     tree: TreeSpec,
     log: &Reading,
-    shows: Shows,
-    clock: Clock,
-    is_listed: bool,
+    how: Replaying,
     output: &mut W,
 ) -> TryEnd
-    ensures { (text : List ℕ) → log_in text ≡ Ok log.now → Replays (Tried result) tree text (tells_orders Script shows) is_listed (W.contents output.old) (W.contents output.new) }
+    ensures { (text : List ℕ) → log_in text ≡ Ok log.now → Replays (Tried result) tree text (tells_orders Script how.shows) how.is_listed (W.seen output.old).bytes (W.seen output.new).bytes }
 {
-    let Ok(tail) = tail_of(alloc, is_listed, log) else {
+    let Ok(tail) = tail_of(alloc, how.is_listed, log) else {
         drop(tree);
         return TryEnd::OutOfMemory;
     };
     let mut script = Counted::new(log.script());
-    let tried = try_tree(
-        alloc,
-        tree,
-        Writer::Script,
-        shows,
-        clock,
-        &mut script,
-        output,
-    );
+    let playing = Playing {
+        writer: Writer::Script,
+        shows: how.shows,
+        clock: how.clock,
+    };
+    let tried = try_tree(alloc, tree, playing, &mut script, output);
     close(tried, tail.as_slice(), output)
 }
 
@@ -158,12 +161,10 @@ pub fn replay<W: Output>(
     alloc: Global,
     tree: TreeSpec,
     text: &[u8],
-    shows: Shows,
-    clock: Clock,
-    is_listed: bool,
+    how: Replaying,
     output: &mut W,
 ) -> ReplayEnd
-    ensures { Replays result tree text.now (tells_orders Script shows) is_listed (W.contents output.old) (W.contents output.new) }
+    ensures { Replays result tree text.now (tells_orders Script how.shows) how.is_listed (W.seen output.old).bytes (W.seen output.new).bytes }
 {
     let log = match read_log(alloc, text) {
         Ok(Ok(log)) => log,
@@ -176,7 +177,7 @@ pub fn replay<W: Output>(
             return ReplayEnd::Tried(TryEnd::OutOfMemory);
         }
     };
-    let end = play_log(alloc, tree, &log, shows, clock, is_listed, output);
+    let end = play_log(alloc, tree, &log, how, output);
     drop(log);
     ReplayEnd::Tried(end)
 }

@@ -6,10 +6,10 @@ use Rattle.otp_file.specs.Trees.{Tree, tables_of}
 use Rattle.otp_jobs.specs.Plans.{plan_fault}
 use Rattle.otp_jobs.specs.declared.role.Calm.{Calm}
 use Rattle.otp_jobs.specs.declared.worker.WorkedJob.{WorkedJob}
+use Rattle.otp_sim.specs.Devices.{Written}
 use Rattle.otp_serve.specs.declared.patient.PatientJob.{PatientJob}
 use Rattle.otp_report.specs.declared.report.Report.{Report}
 use Rattle.otp_tree.specs.declared.whole.CountedRun.{CountedRun}
-use Rattle.otp_ending.specs.Devices.{Written}
 use Rattle.otp_running.specs.Running.{HasReport, HasServedReport, IsEndOfRun, IsTreeRun, IsTreeServed}
 use Rattle.otp_ending.specs.Told.{IsTold, TellsFirst}
 use Rattle.otp_ending.specs.declared.ending.ProgramEnd.{ProgramEnd}
@@ -38,9 +38,9 @@ IsSet true = ⊤
 IsSet false = ⊥
 
 -- and what was told before it ended
-pub run_told : (drawn : Bool) (ending : ProgramEnd) (live : ℕ) (text : List ℕ) (a b : Option (List ℕ)) (f g : ℕ)
-    → (drawn ≡ false → live ≡ 0 → text ≡ []) → IsEndOfRun live ending → IsTold text a b f g → TellsFirst drawn ending a b f g
-run_told drawn ending live text a b f g quiet (inl (is, none)) told =
-    subst (λ (e : ProgramEnd). TellsFirst drawn e a b f g) (sym is) (text, (λ unasked. quiet unasked none, told))
-run_told drawn ending live text a b f g quiet (inr (is, some)) told =
-    subst (λ (e : ProgramEnd). TellsFirst drawn e a b f g) (sym is) (text, (λ never. absurd (subst IsSet never tt), told))
+pub run_told : (drawn : Bool) (ending : ProgramEnd) (live : ℕ) (text : List ℕ) (a b : Written)
+    → (drawn ≡ false → live ≡ 0 → text ≡ []) → IsEndOfRun live ending → IsTold text a b → TellsFirst drawn ending a b
+run_told drawn ending live text a b quiet (inl (is, none)) told =
+    subst (λ (e : ProgramEnd). TellsFirst drawn e a b) (sym is) (text, (λ unasked. quiet unasked none, told))
+run_told drawn ending live text a b quiet (inr (is, some)) told =
+    subst (λ (e : ProgramEnd). TellsFirst drawn e a b) (sym is) (text, (λ never. absurd (subst IsSet never tt), told))

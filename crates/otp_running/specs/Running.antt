@@ -10,6 +10,7 @@ use Rattle.otp_jobs.specs.declared.role.Calm.{Calm}
 use Rattle.otp_jobs.specs.declared.run.FileRunFault.{FileRunFault}
 use Rattle.otp_jobs.specs.declared.run.FileRunFault.TheVariants as run
 use Rattle.otp_jobs.specs.declared.worker.WorkedJob.{WorkedJob}
+use Rattle.otp_sim.specs.Devices.{Written}
 use Rattle.otp_starts.specs.Unfit.{HasStarts, IsRunnable}
 use Rattle.otp_objects.specs.Runs.{TellsRun}
 use Rattle.otp_serve.specs.Serves.{served_text}
@@ -20,7 +21,7 @@ use Rattle.otp_report.specs.declared.report.TableReport.{TableReport}
 use Rattle.otp_tree.specs.declared.whole.CountedRun.{CountedRun}
 use Rattle.otp_jobs.specs.declared.plan.PlanFault.TheVariants as plan
 use Rattle.otp_check.specs.Checks.{IsFirstFault}
-use Rattle.otp_ending.specs.Devices.{HasTree, Written}
+use Rattle.otp_ending.specs.Devices.{HasTree}
 use Rattle.otp_ending.specs.declared.ending.ProgramEnd.{ProgramEnd}
 use Rattle.otp_ending.specs.declared.ending.ProgramEnd.TheVariants.{Done, TreeRefused, UnknownStart, WrongBody, CloseMismatch, CloseMissing, NotFinished, OutputFailed, OutOfMemory}
 

@@ -6,5 +6,5 @@ pub mod serving;
 mod standing;
 mod watching;
 
-pub use running::{Pool, explain, run_file};
-pub use serving::serve_file;
+pub use running::{Pool, RunAs, explain, run_file};
+pub use serving::{ServeAs, serve_file};

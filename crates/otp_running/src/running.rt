@@ -26,13 +26,21 @@ use std::thread::Threads;
 /// Of so many unfit starts a run that is refused tells.
 const MOST_TOLD: usize = 20;
 
-/// What trees are run with: threads, a clock, and a watch.
+/// What trees are run with: threads, a clock, memory, and a watch.
 #[derive(Clone, Copy)]
 pub struct Pool<'a, H, G, L> {
     pub rt: &'a H,
+    pub alloc: Global,
     pub gate: &'a G,
     /// Who is told what happens to each process of a tree that is served for a time.
     pub watch: &'a L,
+}
+
+/// How a tree is run, and what is told of it.
+#[derive(Drop)]
+pub struct RunAs {
+    pub settings: Settings,
+    pub shows: RunShows,
 }
 
 /// The tree that a file says, which has 64 supervisors at most.
@@ -49,11 +57,9 @@ pub(crate) fn tree_of(alloc: Global, file: &[u8]) -> Result<TreeSpec, TreeFault>
 /// is told besides changes nothing of the output.
 pub fn run_file<'a, H, G, L, W, E>(
     pool: &Pool<'_, H, G, L>,
-    alloc: Global,
     name: &str,
     file: &[u8],
-    settings: Settings,
-    shows: RunShows,
+    how: RunAs,
     output: &mut W,
     errors: &mut E,
 ) -> ProgramEnd<'a>
@@ -62,12 +68,14 @@ where
     G: Gate + Sync,
     W: Output,
     E: Output,
-    ensures done { IsTreeRun shows.is_json name.now settings.counted result file.now
-        (record { bytes = W.contents output.old; failures = W.failures output.old })
-        (record { bytes = W.contents output.new; failures = W.failures output.new }) }
-    ensures first { TellsFirst (shows.is_drawn || shows.is_why) result (E.contents errors.old) (E.contents errors.new) (E.failures errors.old) (E.failures errors.new) }
-    ensures kept { E.failures errors.old ≤ E.failures errors.new }
+    ensures done { IsTreeRun how.shows.is_json name.now how.settings.counted result file.now
+        (W.seen output.old)
+        (W.seen output.new) }
+    ensures first { TellsFirst (how.shows.is_drawn || how.shows.is_why) result (E.seen errors.old) (E.seen errors.new) }
+    ensures kept { (E.seen errors.old).failures ≤ (E.seen errors.new).failures }
 {
+    let alloc = pool.alloc;
+    let RunAs { settings, shows } = how;
     let tree = match tree_of(alloc, file) {
         Ok(tree) => tree,
         Err(fault) => {
@@ -140,8 +148,8 @@ pub(crate) fn ending_of_live<'a>(live: u64) -> ProgramEnd<'a>
 
 /// Tells which command explains an ending, where one does: a tree that is refused is explained by `check`.
 pub fn explain<E: Output>(errors: &mut E, name: &str, ending: ProgramEnd<'_>)
-    ensures first { (drawn : Bool) → TellsFirst drawn ending.entry (E.contents errors.old) (E.contents errors.new) (E.failures errors.old) (E.failures errors.new) }
-    ensures kept { E.failures errors.old ≤ E.failures errors.new }
+    ensures first { (drawn : Bool) → TellsFirst drawn ending.entry (E.seen errors.old) (E.seen errors.new) }
+    ensures kept { (E.seen errors.old).failures ≤ (E.seen errors.new).failures }
 {
     // Where nothing can be told, the ending alone says it.
     match ending {
@@ -164,8 +172,8 @@ pub(crate) fn refuse_run<'a, E: Output>(
     fault: FileRunFault,
 ) -> ProgramEnd<'a>
     ensures ending { result ≡ ending_of_run fault }
-    ensures first { (drawn : Bool) → TellsFirst drawn result (E.contents errors.old) (E.contents errors.new) (E.failures errors.old) (E.failures errors.new) }
-    ensures kept { E.failures errors.old ≤ E.failures errors.new }
+    ensures first { (drawn : Bool) → TellsFirst drawn result (E.seen errors.old) (E.seen errors.new) }
+    ensures kept { (E.seen errors.old).failures ≤ (E.seen errors.new).failures }
 {
     match fault {
         FileRunFault::UnknownStart(start) => {
@@ -182,8 +190,8 @@ pub(crate) fn refuse_run<'a, E: Output>(
 
 /// Tells which starts of a file are unfit, and what to write. Where there is no memory for it, nothing is told.
 fn tell_unfit<E: Output>(alloc: Global, errors: &mut E, name: &str, file: &[u8])
-    ensures told { (text : List ℕ) × IsTold text (E.contents errors.old) (E.contents errors.new) (E.failures errors.old) (E.failures errors.new) }
-    ensures kept { E.failures errors.old ≤ E.failures errors.new }
+    ensures told { (text : List ℕ) × IsTold text (E.seen errors.old) (E.seen errors.new) }
+    ensures kept { (E.seen errors.old).failures ≤ (E.seen errors.new).failures }
 {
     let Ok(text) = text_of_unfit(alloc, name, file) else {
         return;

@@ -70,16 +70,21 @@ where
     served
 }
 
+/// How a tree is served, for how long, and what is told of it.
+#[derive(Drop)]
+pub struct ServeAs {
+    pub settings: Settings,
+    pub serving: Serving,
+    pub shows: RunShows,
+}
+
 /// Reads the tree of a file, serves it with worked jobs for a time, and writes the report. What is told besides changes nothing of
 /// the output.
 pub fn serve_file<'a, H, G, L, W, E>(
     pool: &Pool<'_, H, G, L>,
-    alloc: Global,
     name: &str,
     file: &[u8],
-    settings: Settings,
-    serving: Serving,
-    shows: RunShows,
+    how: ServeAs,
     output: &mut W,
     errors: &mut E,
 ) -> ProgramEnd<'a>
@@ -88,12 +93,18 @@ where
     L: Watch + Sync,
     W: Output,
     E: Output,
-    ensures done { IsTreeServed shows.is_json name.now result file.now
-        (record { bytes = W.contents output.old; failures = W.failures output.old })
-        (record { bytes = W.contents output.new; failures = W.failures output.new }) }
-    ensures first { TellsFirst (shows.is_drawn || shows.is_why) result (E.contents errors.old) (E.contents errors.new) (E.failures errors.old) (E.failures errors.new) }
-    ensures kept { E.failures errors.old ≤ E.failures errors.new }
+    ensures done { IsTreeServed how.shows.is_json name.now result file.now
+        (W.seen output.old)
+        (W.seen output.new) }
+    ensures first { TellsFirst (how.shows.is_drawn || how.shows.is_why) result (E.seen errors.old) (E.seen errors.new) }
+    ensures kept { (E.seen errors.old).failures ≤ (E.seen errors.new).failures }
 {
+    let alloc = pool.alloc;
+    let ServeAs {
+        settings,
+        serving,
+        shows,
+    } = how;
     let tree = match tree_of(alloc, file) {
         Ok(tree) => tree,
         Err(fault) => {

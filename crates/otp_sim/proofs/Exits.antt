@@ -8,9 +8,9 @@ use Rattle.otp_sim.specs.declared.driven.Stop.{Stop}
 use Rattle.otp_sim.specs.declared.driven.Stop.TheVariants as stop
 use Rattle.otp_sim.specs.declared.engine.SimEnd.{SimEnd}
 use Rattle.otp_sim.specs.declared.engine.SimEnd.TheVariants.{Done, LineRefused, HistoryFull, InputFailed, OutputFailed, Memory}
-use Rattle.otp_sim.specs.Devices.{Begins, AppendsPart}
+use Rattle.otp_sim.specs.Devices.{Begins, AppendsPart, Devices, Readable, Written}
 use Rattle.otp_sim.specs.Sim.{Sim, opened, happen, stepped, take_line, take_lines, lines_of, sim_of, end_of, whole_text}
-use Rattle.otp_sim.specs.Runs.{Ran, Broke, Halted, PieceEnds, Finishes, Flushes, NoEnd, ReadsNext, Stopped, Told, Writes, LastWrites, Devices, WroteAll, WrotePart, WroteFirst, with_text}
+use Rattle.otp_sim.specs.Runs.{Ran, RanFrom, Broke, Halted, PieceEnds, Finishes, Flushes, NoEnd, ReadsNext, Stopped, Told, Writes, LastWrites, WroteAll, WrotePart, WroteFirst, with_text}
 use Rattle.otp_sim.proofs.Texts.{take_line_after, after}
 use Rattle.otp_sim.proofs.Writes.{appends_more}
 use Rattle.otp_sim.proofs.Progress.{ran_start, ran_read, ran_then, piece_then, ran_part, ran_written, first_line, halted_at, halted_between, last_cut, last_served, ended_served, long_served, stopped_long, whole_served}
@@ -34,13 +34,13 @@ consumes_kept (Some xs) (Some ys) (Some zs) x first kept = first ∙ ap (λ byte
 -- of the input these bytes were taken, and so it stands
 pub record Stands (start s : Sim) (old now : Devices) (ready kept : List ℕ) (count : ℕ) : Type 0 where
   pub taken : List ℕ
-  pub consumed : Consumes old.left now.left taken
-  pub ran : Ran start s old.written now.written ready taken kept
+  pub consumed : Consumes old.input.left now.input.left taken
+  pub ran : Ran start s old.output.bytes now.output.bytes ready taken kept
   pub none : NoEnd kept
   pub size : count ≡ length taken
   pub lines : s.lines ≤ count
-  pub reads : old.read_failures ≤ now.read_failures
-  pub writes : old.write_failures ≤ now.write_failures
+  pub reads : old.input.failures ≤ now.input.failures
+  pub writes : old.output.failures ≤ now.output.failures
 
 -- only a part was written
 part_of : (start : Sim) (taken : List ℕ) (left_old left_now before now : Option (List ℕ)) → Consumes left_old left_now taken → Broke start before now taken
@@ -100,29 +100,30 @@ some_of start final taken text (Some bytes) (Some rest) before now consumed same
     record { text = text; written = written; begins = subst (λ (t : Sim). Begins text t.text) (sym whole) begins }
 
 ends_so : (reason : Option Stop) (start : Sim) (old now : Devices)
-    → IfSome old.left (WroteAll start old.written now.written (end_of reason)) → Writes (end_of reason) start old now
+    → IfSome old.input.left (WroteAll start old.output.bytes now.output.bytes (end_of reason)) → Writes (end_of reason) start old now
 ends_so None start old now all = all
 ends_so (Some (stop.LineRefused line)) start old now all = all
 ends_so (Some stop.HistoryFull) start old now all = all
 
 -- the way a piece ends is the way the run ends
-piece_writes : (how : SimEnd) (start : Sim) (old now : Devices) (taken : List ℕ) (failures : ℕ) → old.write_failures ≤ failures
-    → Consumes old.left now.left taken → PieceEnds (Err how) start old.written now.written taken failures now.write_failures → Writes how start old now
-piece_writes Done start old now taken failures later consumed ends = absurd ends
-piece_writes (LineRefused number) start old now taken failures later consumed ends = absurd ends
-piece_writes HistoryFull start old now taken failures later consumed ends = absurd ends
-piece_writes InputFailed start old now taken failures later consumed ends = absurd ends
-piece_writes OutputFailed start old now taken failures later consumed ends =
-    (part_of start taken old.left now.left old.written now.written consumed ends.0, omega (arith, ends.1))
-piece_writes Memory start old now taken failures later consumed ends = inr (first_of start taken old.left now.left old.written now.written consumed ends)
+piece_writes : (how : SimEnd) (start : Sim) (old now : Devices) (taken : List ℕ)
+    → Consumes old.input.left now.input.left taken → PieceEnds (Err how) start old.output now.output taken → Writes how start old now
+piece_writes Done start old now taken consumed ends = absurd ends
+piece_writes (LineRefused number) start old now taken consumed ends = absurd ends
+piece_writes HistoryFull start old now taken consumed ends = absurd ends
+piece_writes InputFailed start old now taken consumed ends = absurd ends
+piece_writes OutputFailed start old now taken consumed ends =
+    (part_of start taken old.input.left now.input.left old.output.bytes now.output.bytes consumed ends.0, ends.1)
+piece_writes Memory start old now taken consumed ends =
+    inr (first_of start taken old.input.left now.input.left old.output.bytes now.output.bytes consumed ends)
 
 -- at the start
 pub stands_start : (s : Sim) (devices : Devices) (ready kept : List ℕ) → kept ≡ [] → s.lines ≡ 0 → Stands (with_text ready s) s devices devices ready kept 0
 stands_start s devices ready kept empty none =
     subst (λ (bytes : List ℕ). Stands (with_text ready s) s devices devices ready bytes 0) (sym empty) (record {
       taken = [];
-      consumed = consumes_none devices.left;
-      ran = ran_start s devices.written ready [];
+      consumed = consumes_none devices.input.left;
+      ran = ran_start s devices.output.bytes ready [];
       none = λ k d inside. absurd (omega arith);
       size = refl;
       lines = omega arith;
@@ -131,14 +132,14 @@ stands_start s devices ready kept empty none =
     })
 
 -- what is ready is written
-pub stands_written : (start s : Sim) (old now : Devices) (ready left kept : List ℕ) (count : ℕ) (written : Option (List ℕ)) (failures : ℕ)
-    → Stands start s old now ready kept count → Appends now.written written ready → left ≡ [] → now.write_failures ≤ failures
-    → Stands start s old (record now { written = written; write_failures = failures }) left kept count
-stands_written start s old now ready left kept count written failures stands more empty later =
-    subst (λ (bytes : List ℕ). Stands start s old (record now { written = written; write_failures = failures }) bytes kept count) (sym empty) (record {
+pub stands_written : (start s : Sim) (old now : Devices) (ready left kept : List ℕ) (count : ℕ) (written : Written)
+    → Stands start s old now ready kept count → Appends now.output.bytes written.bytes ready → left ≡ [] → now.output.failures ≤ written.failures
+    → Stands start s old (record now { output = written }) left kept count
+stands_written start s old now ready left kept count written stands more empty later =
+    subst (λ (bytes : List ℕ). Stands start s old (record now { output = written }) bytes kept count) (sym empty) (record {
       taken = stands.taken;
       consumed = stands.consumed;
-      ran = ran_written start s old.written now.written written ready stands.taken kept stands.ran more;
+      ran = ran_written start s old.output.bytes now.output.bytes written.bytes ready stands.taken kept stands.ran more;
       none = stands.none;
       size = stands.size;
       lines = stands.lines;
@@ -148,33 +149,33 @@ stands_written start s old now ready left kept count written failures stands mor
 
 pub stands_told : (start s : Sim) (old now new : Devices) (ready left kept : List ℕ) (count : ℕ)
     → Stands start s old now ready kept count → Told now new ready left
-    → Stands start s old (record now { written = new.written; write_failures = new.write_failures }) left kept count
+    → Stands start s old (record now { output = new.output }) left kept count
 stands_told start s old now new ready left kept count stands told =
-    stands_written start s old now ready left kept count new.written new.write_failures stands told.written told.none_left told.failures
+    stands_written start s old now ready left kept count new.output stands told.written told.none_left told.failures
 
-pub output_exit : (start s : Sim) (old now : Devices) (ready kept : List ℕ) (count : ℕ) (written : Option (List ℕ)) (failures : ℕ)
-    → Stands start s old now ready kept count → AppendsPart now.written written ready → now.write_failures < failures
-    → Writes OutputFailed start old (record now { written = written; write_failures = failures })
-output_exit start s old now ready kept count written failures stands part failed = (
-  part_of start stands.taken old.left now.left old.written written stands.consumed
-      (ran_part start s old.written now.written written ready stands.taken kept stands.ran part),
+pub output_exit : (start s : Sim) (old now : Devices) (ready kept : List ℕ) (count : ℕ) (written : Written)
+    → Stands start s old now ready kept count → AppendsPart now.output.bytes written.bytes ready → now.output.failures < written.failures
+    → Writes OutputFailed start old (record now { output = written })
+output_exit start s old now ready kept count written stands part failed = (
+  part_of start stands.taken old.input.left now.input.left old.output.bytes written.bytes stands.consumed
+      (ran_part start s old.output.bytes now.output.bytes written.bytes ready stands.taken kept stands.ran part),
   omega (arith, stands.writes),
 )
 
 -- for want of memory nothing goes on, but what is ready is written
-pub flush_exit : (how : SimEnd) (start s : Sim) (old now : Devices) (ready kept : List ℕ) (count : ℕ) (written : Option (List ℕ)) (failures : ℕ)
-    → Stands start s old now ready kept count → Flushes how now.written written ready now.write_failures failures
-    → Writes how start old (record now { written = written; write_failures = failures })
-flush_exit Done start s old now ready kept count written failures stands flushes = absurd flushes
-flush_exit (LineRefused number) start s old now ready kept count written failures stands flushes = absurd flushes
-flush_exit HistoryFull start s old now ready kept count written failures stands flushes = absurd flushes
-flush_exit InputFailed start s old now ready kept count written failures stands flushes = absurd flushes
-flush_exit OutputFailed start s old now ready kept count written failures stands flushes =
-    output_exit start s old now ready kept count written failures stands flushes.0 flushes.1
-flush_exit Memory start s old now ready kept count written failures stands flushes =
-    inr (first_of start stands.taken old.left now.left old.written written stands.consumed
-    (halted_between start s old.written written stands.taken kept
-    (ran_written start s old.written now.written written ready stands.taken kept stands.ran flushes)))
+pub flush_exit : (how : SimEnd) (start s : Sim) (old now : Devices) (ready kept : List ℕ) (count : ℕ) (written : Written)
+    → Stands start s old now ready kept count → Flushes how now.output written ready
+    → Writes how start old (record now { output = written })
+flush_exit Done start s old now ready kept count written stands flushes = absurd flushes
+flush_exit (LineRefused number) start s old now ready kept count written stands flushes = absurd flushes
+flush_exit HistoryFull start s old now ready kept count written stands flushes = absurd flushes
+flush_exit InputFailed start s old now ready kept count written stands flushes = absurd flushes
+flush_exit OutputFailed start s old now ready kept count written stands flushes =
+    output_exit start s old now ready kept count written stands flushes.0 flushes.1
+flush_exit Memory start s old now ready kept count written stands flushes =
+    inr (first_of start stands.taken old.input.left now.input.left old.output.bytes written.bytes stands.consumed
+    (halted_between start s old.output.bytes written.bytes stands.taken kept
+    (ran_written start s old.output.bytes now.output.bytes written.bytes ready stands.taken kept stands.ran flushes)))
 
 -- no line is taken any more, and nothing is left to write
 stopped_exit : (how : SimEnd) (start s : Sim) (old now : Devices) (ready kept : List ℕ) (count : ℕ) (reason : Stop)
@@ -183,48 +184,48 @@ stopped_exit how start s old now ready kept count reason some_ready empty ended 
     let stands = subst (λ (bytes : List ℕ). Stands start s old now bytes kept count) empty some_ready in
     let final : Sim = with_text (stands.ran.written ++ []) s in
     let some : is_some s.end ≡ true = ap is_some (sym ended) in
-    let text : Appends old.written now.written (stands.ran.written ++ []) = rw append-nil stands.ran.appended in
-    let all = all_of start final stands.taken old.left now.left old.written now.written stands.consumed
+    let text : Appends old.output.bytes now.output.bytes (stands.ran.written ++ []) = rw append-nil stands.ran.appended in
+    let all = all_of start final stands.taken old.input.left now.input.left old.output.bytes now.output.bytes stands.consumed
     (λ rest e. ended_served start final stands.taken kept rest some stands.ran.served) text in
     subst (λ (end : SimEnd). Writes end start old now) (sym named)
     (ends_so (Some reason) start old now
-    (subst (λ (end : Option Stop). IfSome old.left (WroteAll start old.written now.written (end_of end))) (sym ended) all))
+    (subst (λ (end : Option Stop). IfSome old.input.left (WroteAll start old.output.bytes now.output.bytes (end_of end))) (sym ended) all))
 
 -- no line is taken any more, and what is ready is written
-told_exit : (how : SimEnd) (start s : Sim) (old now : Devices) (ready kept : List ℕ) (count : ℕ) (reason : Stop) (written : Option (List ℕ)) (failures : ℕ)
-    → Stands start s old now ready kept count → Some reason ≡ s.end → now.write_failures ≤ failures
-    → Appends now.written written ready → how ≡ end_of (Some reason) → Writes how start old (record now { written = written; write_failures = failures })
-told_exit how start s old now ready kept count reason written failures stands ended later more named =
-    stopped_exit how start s old (record now { written = written; write_failures = failures }) [] kept count reason
-    (stands_written start s old now ready [] kept count written failures stands more refl later) refl ended named
+told_exit : (how : SimEnd) (start s : Sim) (old now : Devices) (ready kept : List ℕ) (count : ℕ) (reason : Stop) (written : Written)
+    → Stands start s old now ready kept count → Some reason ≡ s.end → now.output.failures ≤ written.failures
+    → Appends now.output.bytes written.bytes ready → how ≡ end_of (Some reason) → Writes how start old (record now { output = written })
+told_exit how start s old now ready kept count reason written stands ended later more named =
+    stopped_exit how start s old (record now { output = written }) [] kept count reason
+    (stands_written start s old now ready [] kept count written stands more refl later) refl ended named
 
-pub ended_exit : (how : SimEnd) (start s : Sim) (old now : Devices) (ready kept : List ℕ) (count : ℕ) (reason : Stop) (written : Option (List ℕ)) (failures : ℕ)
-    → Stands start s old now ready kept count → Some reason ≡ s.end → now.write_failures ≤ failures
-    → Finishes how (Some reason) now.written written ready now.write_failures failures → Writes how start old (record now { written = written; write_failures = failures })
-ended_exit Done start s old now ready kept count reason written failures stands ended later last =
-    told_exit Done start s old now ready kept count reason written failures stands ended later last.0 last.1
-ended_exit (LineRefused line) start s old now ready kept count reason written failures stands ended later last =
-    told_exit (LineRefused line) start s old now ready kept count reason written failures stands ended later last.0 last.1
-ended_exit HistoryFull start s old now ready kept count reason written failures stands ended later last =
-    told_exit HistoryFull start s old now ready kept count reason written failures stands ended later last.0 last.1
-ended_exit InputFailed start s old now ready kept count reason written failures stands ended later last = absurd last
-ended_exit OutputFailed start s old now ready kept count reason written failures stands ended later last =
-    output_exit start s old now ready kept count written failures stands last.0 last.1
-ended_exit Memory start s old now ready kept count reason written failures stands ended later last = absurd last
+pub ended_exit : (how : SimEnd) (start s : Sim) (old now : Devices) (ready kept : List ℕ) (count : ℕ) (reason : Stop) (written : Written)
+    → Stands start s old now ready kept count → Some reason ≡ s.end → now.output.failures ≤ written.failures
+    → Finishes how (Some reason) now.output written ready → Writes how start old (record now { output = written })
+ended_exit Done start s old now ready kept count reason written stands ended later last =
+    told_exit Done start s old now ready kept count reason written stands ended later last.0 last.1
+ended_exit (LineRefused line) start s old now ready kept count reason written stands ended later last =
+    told_exit (LineRefused line) start s old now ready kept count reason written stands ended later last.0 last.1
+ended_exit HistoryFull start s old now ready kept count reason written stands ended later last =
+    told_exit HistoryFull start s old now ready kept count reason written stands ended later last.0 last.1
+ended_exit InputFailed start s old now ready kept count reason written stands ended later last = absurd last
+ended_exit OutputFailed start s old now ready kept count reason written stands ended later last =
+    output_exit start s old now ready kept count written stands last.0 last.1
+ended_exit Memory start s old now ready kept count reason written stands ended later last = absurd last
 
 -- the reader fails
-pub input_exit : (start s : Sim) (old now : Devices) (ready kept : List ℕ) (count : ℕ) (left : Option (List ℕ)) (failures : ℕ)
-    → Stands start s old now ready kept count → ready ≡ [] → Keeps now.left left
-    → ((now.read_failures < failures) ⊎ (2 ^ 62 ≤ count))
-    → Writes InputFailed start old (record now { left = left; read_failures = failures })
+pub input_exit : (start s : Sim) (old now : Devices) (ready kept : List ℕ) (count : ℕ) (unread : Readable)
+    → Stands start s old now ready kept count → ready ≡ [] → Keeps now.input.left unread.left
+    → ((now.input.failures < unread.failures) ⊎ (2 ^ 62 ≤ count))
+    → Writes InputFailed start old (record now { input = unread })
 unfolding whole_text
-input_exit start s old now ready kept count left failures some_ready empty same why =
+input_exit start s old now ready kept count unread some_ready empty same why =
     let stands = subst (λ (bytes : List ℕ). Stands start s old now bytes kept count) empty some_ready in
     let text : whole_text start stands.taken ≡ stands.ran.written =
     ap (λ (t : Sim). t.text) (whole_served start _ stands.taken kept stands.none stands.ran.served) ∙ append-nil stands.ran.written in
     record {
       taken = stands.taken;
-      consumed = consumes_kept old.left now.left left stands.taken stands.consumed same;
+      consumed = consumes_kept old.input.left now.input.left unread.left stands.taken stands.consumed same;
       written = rw text stands.ran.appended;
       why = elim why [ inl failed ↦ inl (omega (arith, stands.reads)) | inr many ↦ inr (omega (arith, stands.size)) ];
     }
@@ -236,21 +237,21 @@ next_exit Done start s old now new ready left kept buffer count stands next = ab
 next_exit (LineRefused line) start s old now new ready left kept buffer count stands next = absurd next
 next_exit HistoryFull start s old now new ready left kept buffer count stands next = absurd next
 next_exit InputFailed start s old now new ready left kept buffer count stands next =
-    input_exit start s old (record now { written = new.written; write_failures = new.write_failures }) left kept count new.left new.read_failures
+    input_exit start s old (record now { output = new.output }) left kept count new.input
     (stands_told start s old now new ready left kept count stands next.0) next.0.none_left next.1 (inl next.2)
 next_exit OutputFailed start s old now new ready left kept buffer count stands next =
-    output_exit start s old now ready kept count new.written new.write_failures stands next.2 next.3
+    output_exit start s old now ready kept count new.output stands next.2 next.3
 next_exit Memory start s old now new ready left kept buffer count stands next = absurd next
 
 -- the reader is at its end
-pub stands_end : (start s : Sim) (old now : Devices) (ready kept : List ℕ) (count : ℕ) (left : Option (List ℕ)) (failures : ℕ)
-    → Stands start s old now ready kept count → (piece : List ℕ) → piece ≡ [] → Consumes now.left left piece → now.read_failures ≤ failures
-    → Stands start s old (record now { left = left; read_failures = failures }) ready kept count
-stands_end start s old now ready kept count left failures stands piece none some later =
-    let nothing = subst (Consumes now.left left) none some in
+pub stands_end : (start s : Sim) (old now : Devices) (ready kept : List ℕ) (count : ℕ) (unread : Readable)
+    → Stands start s old now ready kept count → (piece : List ℕ) → piece ≡ [] → Consumes now.input.left unread.left piece → now.input.failures ≤ unread.failures
+    → Stands start s old (record now { input = unread }) ready kept count
+stands_end start s old now ready kept count unread stands piece none some later =
+    let nothing = subst (Consumes now.input.left unread.left) none some in
     record {
       taken = stands.taken;
-      consumed = subst (Consumes old.left left) (append-nil stands.taken) (consumes_more old.left now.left left stands.taken [] stands.consumed nothing);
+      consumed = subst (Consumes old.input.left unread.left) (append-nil stands.taken) (consumes_more old.input.left now.input.left unread.left stands.taken [] stands.consumed nothing);
       ran = stands.ran;
       none = stands.none;
       size = stands.size;
@@ -260,31 +261,31 @@ stands_end start s old now ready kept count left failures stands piece none some
     }
 
 -- a last line is taken
-last_exit : (how : SimEnd) (start s : Sim) (old now : Devices) (ready kept line : List ℕ) (count : ℕ) (written : Option (List ℕ)) (failures : ℕ)
+last_exit : (how : SimEnd) (start s : Sim) (old now : Devices) (ready kept line : List ℕ) (count : ℕ) (written : Written)
     (stands : Stands start s old now ready kept count)
-    → ((rest : List ℕ) → now.left ≡ Some rest → take_lines (lines_of (stands.taken ++ rest)) start ≡ after stands.ran.written (take_line line (with_text ready s)))
-    → ((rest : List ℕ) → now.left ≡ Some rest → Stopped (with_text ready s) line now.written written → WroteFirst start old.written written (stands.taken ++ rest))
-    → LastWrites how line (with_text ready s) now.written written now.write_failures failures
-    → Writes how start old (record now { written = written; write_failures = failures })
-last_exit Done start s old now ready kept line count written failures stands final halts last =
+    → ((rest : List ℕ) → now.input.left ≡ Some rest → take_lines (lines_of (stands.taken ++ rest)) start ≡ after stands.ran.written (take_line line (with_text ready s)))
+    → ((rest : List ℕ) → now.input.left ≡ Some rest → Stopped (with_text ready s) line now.output.bytes written.bytes → WroteFirst start old.output.bytes written.bytes (stands.taken ++ rest))
+    → LastWrites how line (with_text ready s) now.output written
+    → Writes how start old (record now { output = written })
+last_exit Done start s old now ready kept line count written stands final halts last =
     let t : Sim = take_line line (with_text ready s) in
-    let text = appends_more old.written now.written written stands.ran.written t.text stands.ran.appended last.0 in
-    subst (λ (end : SimEnd). IfSome old.left (WroteAll start old.written written end)) (sym last.1)
-    (all_of start (after stands.ran.written t) stands.taken old.left now.left old.written written stands.consumed final text)
-last_exit (LineRefused number) start s old now ready kept line count written failures stands final halts last =
+    let text = appends_more old.output.bytes now.output.bytes written.bytes stands.ran.written t.text stands.ran.appended last.0 in
+    subst (λ (end : SimEnd). IfSome old.input.left (WroteAll start old.output.bytes written.bytes end)) (sym last.1)
+    (all_of start (after stands.ran.written t) stands.taken old.input.left now.input.left old.output.bytes written.bytes stands.consumed final text)
+last_exit (LineRefused number) start s old now ready kept line count written stands final halts last =
     let t : Sim = take_line line (with_text ready s) in
-    let text = appends_more old.written now.written written stands.ran.written t.text stands.ran.appended last.0 in
-    subst (λ (end : SimEnd). IfSome old.left (WroteAll start old.written written end)) (sym last.1)
-    (all_of start (after stands.ran.written t) stands.taken old.left now.left old.written written stands.consumed final text)
-last_exit HistoryFull start s old now ready kept line count written failures stands final halts last =
+    let text = appends_more old.output.bytes now.output.bytes written.bytes stands.ran.written t.text stands.ran.appended last.0 in
+    subst (λ (end : SimEnd). IfSome old.input.left (WroteAll start old.output.bytes written.bytes end)) (sym last.1)
+    (all_of start (after stands.ran.written t) stands.taken old.input.left now.input.left old.output.bytes written.bytes stands.consumed final text)
+last_exit HistoryFull start s old now ready kept line count written stands final halts last =
     let t : Sim = take_line line (with_text ready s) in
-    let text = appends_more old.written now.written written stands.ran.written t.text stands.ran.appended last.0 in
-    subst (λ (end : SimEnd). IfSome old.left (WroteAll start old.written written end)) (sym last.1)
-    (all_of start (after stands.ran.written t) stands.taken old.left now.left old.written written stands.consumed final text)
-last_exit InputFailed start s old now ready kept line count written failures stands final halts last = absurd last
-last_exit OutputFailed start s old now ready kept line count written failures stands final halts last = (
-  some_of start (after stands.ran.written (take_line line (with_text ready s))) stands.taken (stands.ran.written ++ last.0.front) old.left now.left old.written written stands.consumed final
-      (appends_more old.written now.written written stands.ran.written last.0.front stands.ran.appended last.0.appended)
+    let text = appends_more old.output.bytes now.output.bytes written.bytes stands.ran.written t.text stands.ran.appended last.0 in
+    subst (λ (end : SimEnd). IfSome old.input.left (WroteAll start old.output.bytes written.bytes end)) (sym last.1)
+    (all_of start (after stands.ran.written t) stands.taken old.input.left now.input.left old.output.bytes written.bytes stands.consumed final text)
+last_exit InputFailed start s old now ready kept line count written stands final halts last = absurd last
+last_exit OutputFailed start s old now ready kept line count written stands final halts last = (
+  some_of start (after stands.ran.written (take_line line (with_text ready s))) stands.taken (stands.ran.written ++ last.0.front) old.input.left now.input.left old.output.bytes written.bytes stands.consumed final
+      (appends_more old.output.bytes now.output.bytes written.bytes stands.ran.written last.0.front stands.ran.appended last.0.appended)
       (record {
         rest = last.0.begins.rest;
         same = ap (λ bytes. stands.ran.written ++ bytes) last.0.begins.same
@@ -292,19 +293,19 @@ last_exit OutputFailed start s old now ready kept line count written failures st
       }),
   omega (arith, stands.writes, last.1),
 )
-last_exit Memory start s old now ready kept line count written failures stands final halts last =
-    inr (first_where start stands.taken old.left now.left old.written written stands.consumed (λ rest e. halts rest e last))
+last_exit Memory start s old now ready kept line count written stands final halts last =
+    inr (first_where start stands.taken old.input.left now.input.left old.output.bytes written.bytes stands.consumed (λ rest e. halts rest e last))
 
 -- at the end of the input
-pub end_exit : (how : SimEnd) (start s : Sim) (old now : Devices) (ready kept line : List ℕ) (count : ℕ) (written : Option (List ℕ)) (failures : ℕ)
-    (stands : Stands start s old now ready kept count) → IsAtEnd now.left → line ≡ kept
-    → LastWrites how line (with_text ready s) now.written written now.write_failures failures
-    → Writes how start old (record now { written = written; write_failures = failures })
-end_exit how start s old now ready kept line count written failures stands at_end same_line line_last =
-    let last = subst (λ (bytes : List ℕ). LastWrites how bytes (with_text ready s) now.written written now.write_failures failures) same_line line_last in
+pub end_exit : (how : SimEnd) (start s : Sim) (old now : Devices) (ready kept line : List ℕ) (count : ℕ) (written : Written)
+    (stands : Stands start s old now ready kept count) → IsAtEnd now.input.left → line ≡ kept
+    → LastWrites how line (with_text ready s) now.output written
+    → Writes how start old (record now { output = written })
+end_exit how start s old now ready kept line count written stands at_end same_line line_last =
+    let last = subst (λ (bytes : List ℕ). LastWrites how bytes (with_text ready s) now.output written) same_line line_last in
     let served : take_lines (lines_of stands.taken) start ≡ after stands.ran.written (take_line kept (with_text ready s)) =
     last_served start _ stands.taken kept stands.none stands.ran.served ∙ take_line_after stands.ran.written kept (with_text ready s) in
-    last_exit how start s old now ready kept kept count written failures stands
+    last_exit how start s old now ready kept kept count written stands
     (λ rest e.
     let none : rest ≡ [] = subst IsAtEnd e at_end in
     ap (λ bytes. take_lines (lines_of (stands.taken ++ bytes)) start) none
@@ -314,39 +315,38 @@ end_exit how start s old now ready kept line count written failures stands at_en
     let cut : lines_of (stands.taken ++ rest) ≡ stands.ran.served.lines ++ kept ∷ [] =
     ap (λ bytes. lines_of (stands.taken ++ bytes)) none ∙ ap lines_of (append-nil stands.taken)
     ∙ last_cut start _ stands.taken kept stands.none stands.ran.served in
-    halted_at start s old.written now.written written ready stands.taken kept (stands.taken ++ rest) kept [] stands.ran cut stopped)
+    halted_at start s old.output.bytes now.output.bytes written.bytes ready stands.taken kept (stands.taken ++ rest) kept [] stands.ran cut stopped)
     last
 
 -- at a line that is too long
-pub long_exit : (how : SimEnd) (start s : Sim) (old now : Devices) (ready kept line : List ℕ) (count : ℕ) (written : Option (List ℕ)) (failures : ℕ)
+pub long_exit : (how : SimEnd) (start s : Sim) (old now : Devices) (ready kept line : List ℕ) (count : ℕ) (written : Written)
     (stands : Stands start s old now ready kept count) → 512 < length kept → line ≡ kept
-    → LastWrites how line (with_text ready s) now.written written now.write_failures failures
-    → Writes how start old (record now { written = written; write_failures = failures })
-long_exit how start s old now ready kept line count written failures stands long same_line line_last =
-    let last = subst (λ (bytes : List ℕ). LastWrites how bytes (with_text ready s) now.written written now.write_failures failures) same_line line_last in
-    last_exit how start s old now ready kept kept count written failures stands
+    → LastWrites how line (with_text ready s) now.output written
+    → Writes how start old (record now { output = written })
+long_exit how start s old now ready kept line count written stands long same_line line_last =
+    let last = subst (λ (bytes : List ℕ). LastWrites how bytes (with_text ready s) now.output written) same_line line_last in
+    last_exit how start s old now ready kept kept count written stands
     (λ rest e. long_served start _ stands.taken kept rest stands.none long stands.ran.served ∙ take_line_after stands.ran.written kept (with_text ready s))
     (λ rest e stopped.
     let first = first_line kept rest stands.none in
     let cut : lines_of (stands.taken ++ rest) ≡ stands.ran.served.lines ++ (kept ++ first.rest) ∷ first.others =
     stands.ran.served.cut rest ∙ ap (λ lines. stands.ran.served.lines ++ lines) first.same in
-    halted_at start s old.written now.written written ready stands.taken kept (stands.taken ++ rest) (kept ++ first.rest) first.others stands.ran cut
-    (stopped_long (with_text ready s) kept first.rest now.written written long stopped))
+    halted_at start s old.output.bytes now.output.bytes written.bytes ready stands.taken kept (stands.taken ++ rest) (kept ++ first.rest) first.others stands.ran cut
+    (stopped_long (with_text ready s) kept first.rest now.output.bytes written.bytes long stopped))
     last
 
 -- a piece of the input is served
-pub stands_served : (start s t : Sim) (old now : Devices) (ready ready_now kept kept_now piece : List ℕ) (count count_now : ℕ)
-    (left written : Option (List ℕ)) (read_failures write_failures : ℕ)
-    → Stands start s old now ready kept count → count_now ≡ count + length piece → Consumes now.left left piece → now.read_failures ≤ read_failures
-    → Ran (with_text ready s) t now.written written ready_now (kept ++ piece) kept_now → NoEnd kept_now → t.lines ≤ s.lines + length piece
-    → now.write_failures ≤ write_failures
-    → Stands start t old (record { left = left; written = written; read_failures = read_failures; write_failures = write_failures }) ready_now kept_now count_now
-stands_served start s t old now ready ready_now kept kept_now piece count count_now left written read_failures write_failures stands counted more reads ran none lines writes =
+pub stands_served : (start s t : Sim) (old now new : Devices) (ready ready_now kept kept_now piece : List ℕ) (count count_now : ℕ)
+    → Stands start s old now ready kept count → count_now ≡ count + length piece → Consumes now.input.left new.input.left piece
+    → now.input.failures ≤ new.input.failures → RanFrom ready s t now.output new.output ready_now (kept ++ piece) kept_now
+    → NoEnd kept_now → t.lines ≤ s.lines + length piece → now.output.failures ≤ new.output.failures
+    → Stands start t old new ready_now kept_now count_now
+stands_served start s t old now new ready ready_now kept kept_now piece count count_now stands counted more reads ran none lines writes =
     record {
       taken = stands.taken ++ piece;
-      consumed = consumes_more old.left now.left left stands.taken piece stands.consumed more;
-      ran = ran_then start s t old.written now.written written ready ready_now (stands.taken ++ piece) (kept ++ piece) kept_now
-          (ran_read start s old.written now.written ready stands.taken kept piece stands.ran) ran;
+      consumed = consumes_more old.input.left now.input.left new.input.left stands.taken piece stands.consumed more;
+      ran = ran_then start s t old.output.bytes now.output.bytes new.output.bytes ready ready_now (stands.taken ++ piece) (kept ++ piece) kept_now
+          (ran_read start s old.output.bytes now.output.bytes ready stands.taken kept piece stands.ran) ran;
       none = none;
       size = omega (arith, stands.size, length-append stands.taken piece);
       lines = omega (arith, stands.lines);
@@ -354,17 +354,14 @@ stands_served start s t old now ready ready_now kept kept_now piece count count_
       writes = omega (arith, stands.writes);
     }
 
-pub piece_exit : (how : SimEnd) (start s : Sim) (old now : Devices) (ready kept piece : List ℕ) (count : ℕ)
-    (left written : Option (List ℕ)) (read_failures write_failures : ℕ)
-    → Stands start s old now ready kept count → Consumes now.left left piece
-    → PieceEnds (Err how) (with_text ready s) now.written written (kept ++ piece) now.write_failures write_failures
-    → Writes how start old (record { left = left; written = written; read_failures = read_failures; write_failures = write_failures })
-piece_exit how start s old now ready kept piece count left written read_failures write_failures stands more ends =
-    let later : Devices = record { left = left; written = written; read_failures = read_failures; write_failures = write_failures } in
-    let taken = consumes_more old.left now.left left stands.taken piece stands.consumed more in
-    let ran = ran_read start s old.written now.written ready stands.taken kept piece stands.ran in
-    piece_writes how start old later (stands.taken ++ piece) now.write_failures stands.writes taken
-    (piece_then how start s old.written now.written written ready (stands.taken ++ piece) (kept ++ piece) now.write_failures write_failures ran ends)
+pub piece_exit : (how : SimEnd) (start s : Sim) (old now new : Devices) (ready kept piece : List ℕ) (count : ℕ)
+    → Stands start s old now ready kept count → Consumes now.input.left new.input.left piece
+    → PieceEnds (Err how) (with_text ready s) now.output new.output (kept ++ piece) → Writes how start old new
+piece_exit how start s old now new ready kept piece count stands more ends =
+    let taken = consumes_more old.input.left now.input.left new.input.left stands.taken piece stands.consumed more in
+    let ran = ran_read start s old.output.bytes now.output.bytes ready stands.taken kept piece stands.ran in
+    piece_writes how start old new (stands.taken ++ piece) taken
+    (piece_then how start s old.output now.output new.output ready (stands.taken ++ piece) (kept ++ piece) ran stands.writes ends)
 
 pub keeps_known : (known : Option (List ℕ)) → Keeps known known
 keeps_known None = tt

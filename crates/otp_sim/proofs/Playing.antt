@@ -5,7 +5,7 @@ use Rattle.std.specs.Io.KnownBytes.{Appends}
 use Rattle.otp_sim.specs.declared.driven.Stop.{Stop}
 use Rattle.otp_sim.specs.declared.engine.SimEnd.{SimEnd}
 use Rattle.otp_sim.specs.declared.engine.SimEnd.TheVariants.{Done, LineRefused, HistoryFull, InputFailed, OutputFailed, Memory}
-use Rattle.otp_sim.specs.Devices.{Begins, AppendsPart, Moves}
+use Rattle.otp_sim.specs.Devices.{Begins, AppendsPart, Moves, Written}
 use Rattle.otp_sim.specs.Sim.{Sim, begin_line, end_of, followed, next_kind, settled, take_line, went_on}
 use Rattle.otp_sim.specs.Runs.{Finishes, Flushes, LastWrites, LineEnds, Played, begun, with_text}
 use Rattle.otp_sim.proofs.Settled.{followed_last, none_follows, remaining, remaining_fell, settled_done, settled_went_on, stays}
@@ -101,31 +101,32 @@ playing_part from s line before mid now ready playing part =
     }
 
 -- memory is refused, and what is ready is written
-pub playing_flushed : (how : SimEnd) (from s : Sim) (line : List ℕ) (before mid now : Option (List ℕ)) (ready : List ℕ) (earliest failures_before failures_now : ℕ)
-    → Playing from line before mid ready s → earliest ≤ failures_before → Flushes how mid now ready failures_before failures_now
-    → LineEnds (Err how) from line before now earliest failures_now
-playing_flushed Done from s line before mid now ready earliest failures_before failures_now playing later flushes = flushes
-playing_flushed (LineRefused number) from s line before mid now ready earliest failures_before failures_now playing later flushes = flushes
-playing_flushed HistoryFull from s line before mid now ready earliest failures_before failures_now playing later flushes = flushes
-playing_flushed InputFailed from s line before mid now ready earliest failures_before failures_now playing later flushes = flushes
-playing_flushed OutputFailed from s line before mid now ready earliest failures_before failures_now playing later flushes =
-    (playing_part from s line before mid now ready playing flushes.0, omega (arith, flushes.1))
-playing_flushed Memory from s line before mid now ready earliest failures_before failures_now playing later flushes =
+pub playing_flushed : (how : SimEnd) (from s : Sim) (line : List ℕ) (before mid now : Written) (ready : List ℕ)
+    → Playing from line before.bytes mid.bytes ready s → before.failures ≤ mid.failures → Flushes how mid now ready
+    → LineEnds (Err how) from line before now
+playing_flushed Done from s line before mid now ready playing later flushes = flushes
+playing_flushed (LineRefused number) from s line before mid now ready playing later flushes = flushes
+playing_flushed HistoryFull from s line before mid now ready playing later flushes = flushes
+playing_flushed InputFailed from s line before mid now ready playing later flushes = flushes
+playing_flushed OutputFailed from s line before mid now ready playing later flushes =
+    (playing_part from s line before.bytes mid.bytes now.bytes ready playing flushes.0, omega (arith, flushes.1))
+playing_flushed Memory from s line before mid now ready playing later flushes =
     record {
       events = suc playing.events;
-      text = subst (λ (t : Sim). Appends before now t.text) playing.far (appends_more before mid now playing.written ready playing.appended flushes);
+      text = subst (λ (t : Sim). Appends before.bytes now.bytes t.text) playing.far
+          (appends_more before.bytes mid.bytes now.bytes playing.written ready playing.appended flushes);
     }
 
 -- memory is refused before anything of the line has happened
-pub line_flushed : (how : SimEnd) (line : List ℕ) (s : Sim) (before now : Option (List ℕ)) (failures_before failures_now : ℕ)
-    → Flushes how before now s.text failures_before failures_now → LineEnds (Err how) s line before now failures_before failures_now
+pub line_flushed : (how : SimEnd) (line : List ℕ) (s : Sim) (before now : Written)
+    → Flushes how before now s.text → LineEnds (Err how) s line before now
 unfolding begun
-line_flushed Done line s before now failures_before failures_now flushes = flushes
-line_flushed (LineRefused number) line s before now failures_before failures_now flushes = flushes
-line_flushed HistoryFull line s before now failures_before failures_now flushes = flushes
-line_flushed InputFailed line s before now failures_before failures_now flushes = flushes
-line_flushed OutputFailed line s before now failures_before failures_now flushes = (line_part line s before now flushes.0, flushes.1)
-line_flushed Memory line s before now failures_before failures_now flushes = record { events = zero; text = flushes }
+line_flushed Done line s before now flushes = flushes
+line_flushed (LineRefused number) line s before now flushes = flushes
+line_flushed HistoryFull line s before now flushes = flushes
+line_flushed InputFailed line s before now flushes = flushes
+line_flushed OutputFailed line s before now flushes = (line_part line s before.bytes now.bytes flushes.0, flushes.1)
+line_flushed Memory line s before now flushes = record { events = zero; text = flushes }
 
 -- a last line was played, and what is ready is written
 played_text : (from to : Sim) (line : List ℕ) (before mid now : Option (List ℕ)) (ready : List ℕ)
@@ -137,27 +138,26 @@ played_end : (from to : Sim) (line : List ℕ) (before now : Option (List ℕ)) 
     → Played from to line before now ready → reason ≡ to.end → end_of reason ≡ end_of (take_line line from).end
 played_end from to line before now ready reason played why = ap end_of why ∙ ap (λ (t : Sim). end_of t.end) played.same
 
-pub last_finished : (how : SimEnd) (from to : Sim) (line : List ℕ) (before mid now : Option (List ℕ)) (ready : List ℕ) (reason : Option Stop)
-    (earliest failures_before failures_now : ℕ)
-    → Played from to line before mid ready → reason ≡ to.end → earliest ≤ failures_before
-    → Finishes how reason mid now ready failures_before failures_now → LastWrites how line from before now earliest failures_now
-last_finished Done from to line before mid now ready reason earliest failures_before failures_now played why later ends =
-    (played_text from to line before mid now ready played ends.0, ends.1 ∙ played_end from to line before mid ready reason played why)
-last_finished (LineRefused number) from to line before mid now ready reason earliest failures_before failures_now played why later ends =
-    (played_text from to line before mid now ready played ends.0, ends.1 ∙ played_end from to line before mid ready reason played why)
-last_finished HistoryFull from to line before mid now ready reason earliest failures_before failures_now played why later ends =
-    (played_text from to line before mid now ready played ends.0, ends.1 ∙ played_end from to line before mid ready reason played why)
-last_finished InputFailed from to line before mid now ready reason earliest failures_before failures_now played why later ends = absurd ends
-last_finished OutputFailed from to line before mid now ready reason earliest failures_before failures_now played why later ends =
+pub last_finished : (how : SimEnd) (from to : Sim) (line : List ℕ) (before mid now : Written) (ready : List ℕ) (reason : Option Stop)
+    → Played from to line before.bytes mid.bytes ready → reason ≡ to.end → before.failures ≤ mid.failures
+    → Finishes how reason mid now ready → LastWrites how line from before now
+last_finished Done from to line before mid now ready reason played why later ends =
+    (played_text from to line before.bytes mid.bytes now.bytes ready played ends.0, ends.1 ∙ played_end from to line before.bytes mid.bytes ready reason played why)
+last_finished (LineRefused number) from to line before mid now ready reason played why later ends =
+    (played_text from to line before.bytes mid.bytes now.bytes ready played ends.0, ends.1 ∙ played_end from to line before.bytes mid.bytes ready reason played why)
+last_finished HistoryFull from to line before mid now ready reason played why later ends =
+    (played_text from to line before.bytes mid.bytes now.bytes ready played ends.0, ends.1 ∙ played_end from to line before.bytes mid.bytes ready reason played why)
+last_finished InputFailed from to line before mid now ready reason played why later ends = absurd ends
+last_finished OutputFailed from to line before mid now ready reason played why later ends =
     let same : played.written ++ ready ≡ (take_line line from).text = ap (λ (t : Sim). t.text) played.same in
     let part = ends.0 in
     let split : played.written ++ ready ≡ (played.written ++ part.front) ++ part.begins.rest =
     ap (λ bytes. played.written ++ bytes) part.begins.same ∙ sym (append_assoc played.written part.front part.begins.rest) in (
       record {
         front = played.written ++ part.front;
-        appended = appends_more before mid now played.written part.front played.appended part.appended;
+        appended = appends_more before.bytes mid.bytes now.bytes played.written part.front played.appended part.appended;
         begins = record { rest = part.begins.rest; same = sym same ∙ split };
       },
       omega (arith, ends.1),
     )
-last_finished Memory from to line before mid now ready reason earliest failures_before failures_now played why later ends = absurd ends
+last_finished Memory from to line before mid now ready reason played why later ends = absurd ends

@@ -14,7 +14,7 @@ use Rattle.otp_sim.specs.Sim.{Sim, begin_form, begin_line, followed, settled, ta
 use Rattle.otp_sim.specs.declared.engine.SimEnd.{SimEnd}
 use Rattle.otp_sim.specs.declared.engine.SimEnd.TheVariants.{Done, LineRefused, HistoryFull, InputFailed, OutputFailed, Memory}
 use Rattle.otp_sim.specs.Runs.{Served, Ran, Played, Stopped, LineEnds, Broke, Halted, PieceEnds, Flushes, NoEnd, WroteFirst, begun, begun_first, with_text}
-use Rattle.otp_sim.specs.Devices.{AppendsPart}
+use Rattle.otp_sim.specs.Devices.{AppendsPart, Written}
 use Rattle.std.specs.Io.KnownBytes.{Appends}
 use Rattle.otp_sim.proofs.Writes.{appends_none, appends_more}
 use Rattle.otp_sim.proofs.Settled.{ended_none, settled_done}
@@ -383,41 +383,31 @@ stopped_long s line rest before now long stopped =
     }
 
 -- a piece ends, after a part of the run
-pub piece_then : (how : SimEnd) (start s : Sim) (before mid now : Option (List ℕ)) (ready taken waiting : List ℕ) (failures_before failures_now : ℕ)
-    → Ran start s before mid ready taken waiting → PieceEnds (Err how) (with_text ready s) mid now waiting failures_before failures_now
-    → PieceEnds (Err how) start before now taken failures_before failures_now
-piece_then Done start s before mid now ready taken waiting failures_before failures_now ran ends = ends
-piece_then (LineRefused number) start s before mid now ready taken waiting failures_before failures_now ran ends = ends
-piece_then HistoryFull start s before mid now ready taken waiting failures_before failures_now ran ends = ends
-piece_then InputFailed start s before mid now ready taken waiting failures_before failures_now ran ends = ends
-piece_then OutputFailed start s before mid now ready taken waiting failures_before failures_now ran ends =
-    (broke_then start s before mid now ready taken waiting ran ends.0, ends.1)
-piece_then Memory start s before mid now ready taken waiting failures_before failures_now ran ends =
-    halted_then start s before mid now ready taken waiting ran ends
-
--- the same after some of the writer's failures, which are counted
-pub ends_earlier : (how : SimEnd) (start : Sim) (before now : Option (List ℕ)) (taken : List ℕ) (earliest failures_before failures_now : ℕ)
-    → earliest ≤ failures_before → PieceEnds (Err how) start before now taken failures_before failures_now
-    → PieceEnds (Err how) start before now taken earliest failures_now
-ends_earlier Done start before now taken earliest failures_before failures_now later ends = ends
-ends_earlier (LineRefused number) start before now taken earliest failures_before failures_now later ends = ends
-ends_earlier HistoryFull start before now taken earliest failures_before failures_now later ends = ends
-ends_earlier InputFailed start before now taken earliest failures_before failures_now later ends = ends
-ends_earlier OutputFailed start before now taken earliest failures_before failures_now later ends = (ends.0, omega (arith, ends.1))
-ends_earlier Memory start before now taken earliest failures_before failures_now later ends = ends
+pub piece_then : (how : SimEnd) (start s : Sim) (before mid now : Written) (ready taken waiting : List ℕ)
+    → Ran start s before.bytes mid.bytes ready taken waiting → before.failures ≤ mid.failures
+    → PieceEnds (Err how) (with_text ready s) mid now waiting → PieceEnds (Err how) start before now taken
+piece_then Done start s before mid now ready taken waiting ran later ends = ends
+piece_then (LineRefused number) start s before mid now ready taken waiting ran later ends = ends
+piece_then HistoryFull start s before mid now ready taken waiting ran later ends = ends
+piece_then InputFailed start s before mid now ready taken waiting ran later ends = ends
+piece_then OutputFailed start s before mid now ready taken waiting ran later ends =
+    (broke_then start s before.bytes mid.bytes now.bytes ready taken waiting ran ends.0, omega (arith, ends.1))
+piece_then Memory start s before mid now ready taken waiting ran later ends =
+    halted_then start s before.bytes mid.bytes now.bytes ready taken waiting ran ends
 
 -- for want of memory what is ready is written, and then the piece ends
-pub flushed : (how : SimEnd) (start s : Sim) (before mid now : Option (List ℕ)) (ready taken waiting : List ℕ) (failures_before failures_now : ℕ)
-    → Ran start s before mid ready taken waiting → Flushes how mid now ready failures_before failures_now
-    → PieceEnds (Err how) start before now taken failures_before failures_now
-flushed Done start s before mid now ready taken waiting failures_before failures_now ran flushes = flushes
-flushed (LineRefused number) start s before mid now ready taken waiting failures_before failures_now ran flushes = flushes
-flushed HistoryFull start s before mid now ready taken waiting failures_before failures_now ran flushes = flushes
-flushed InputFailed start s before mid now ready taken waiting failures_before failures_now ran flushes = flushes
-flushed OutputFailed start s before mid now ready taken waiting failures_before failures_now ran flushes =
-    (ran_part start s before mid now ready taken waiting ran flushes.0, flushes.1)
-flushed Memory start s before mid now ready taken waiting failures_before failures_now ran flushes =
-    halted_between start s before now taken waiting (ran_written start s before mid now ready taken waiting ran flushes)
+pub flushed : (how : SimEnd) (start s : Sim) (before mid now : Written) (ready taken waiting : List ℕ)
+    → Ran start s before.bytes mid.bytes ready taken waiting → before.failures ≤ mid.failures → Flushes how mid now ready
+    → PieceEnds (Err how) start before now taken
+flushed Done start s before mid now ready taken waiting ran later flushes = flushes
+flushed (LineRefused number) start s before mid now ready taken waiting ran later flushes = flushes
+flushed HistoryFull start s before mid now ready taken waiting ran later flushes = flushes
+flushed InputFailed start s before mid now ready taken waiting ran later flushes = flushes
+flushed OutputFailed start s before mid now ready taken waiting ran later flushes =
+    (ran_part start s before.bytes mid.bytes now.bytes ready taken waiting ran flushes.0, omega (arith, flushes.1))
+flushed Memory start s before mid now ready taken waiting ran later flushes =
+    halted_between start s before.bytes now.bytes taken waiting
+    (ran_written start s before.bytes mid.bytes now.bytes ready taken waiting ran flushes)
 
 -- a piece is cut at its first LF
 not_found : (found : Bool) (place : ℕ) → cond found (Some place) None ≡ None → found ≡ false
@@ -463,15 +453,14 @@ part_no_end kept rest end found none = All-append (λ byte. (byte == 10) ≡ fal
 pub rest_no_end : (kept rest : List ℕ) → position is_end rest ≡ None → NoEnd kept → NoEnd (kept ++ rest)
 rest_no_end kept rest found none = All-append (λ byte. (byte == 10) ≡ false) kept rest none (no_end_left rest found)
 
-pub next_ends : (how : SimEnd) (start s : Sim) (before mid now : Option (List ℕ)) (ready taken kept rest : List ℕ) (end earliest failures_before failures_now : ℕ)
-    → position is_end rest ≡ Some end → Ran start s before mid ready taken (kept ++ rest) → earliest ≤ failures_before
-    → ((others : List ℕ) → PieceEnds (Err how) (with_text ready s) mid now ((kept ++ take end rest) ++ 10 ∷ others) failures_before failures_now)
-    → PieceEnds (Err how) start before now taken earliest failures_now
-next_ends how start s before mid now ready taken kept rest end earliest failures_before failures_now found ran later ends =
+pub next_ends : (how : SimEnd) (start s : Sim) (before mid now : Written) (ready taken kept rest : List ℕ) (end : ℕ)
+    → position is_end rest ≡ Some end → Ran start s before.bytes mid.bytes ready taken (kept ++ rest) → before.failures ≤ mid.failures
+    → ((others : List ℕ) → PieceEnds (Err how) (with_text ready s) mid now ((kept ++ take end rest) ++ 10 ∷ others))
+    → PieceEnds (Err how) start before now taken
+next_ends how start s before mid now ready taken kept rest end found ran later ends =
     let whole = cut_waiting kept rest end (piece_split rest end found) in
-    let here : PieceEnds (Err how) (with_text ready s) mid now (kept ++ rest) failures_before failures_now = rw whole (ends (drop (end + 1) rest)) in
-    ends_earlier how start before now taken earliest failures_before failures_now later
-    (piece_then how start s before mid now ready taken (kept ++ rest) failures_before failures_now ran here)
+    let here : PieceEnds (Err how) (with_text ready s) mid now (kept ++ rest) = rw whole (ends (drop (end + 1) rest)) in
+    piece_then how start s before mid now ready taken (kept ++ rest) ran later here
 
 pub next_ran : (start s t : Sim) (before mid now : Option (List ℕ)) (ready left taken kept kept_now rest rest_now : List ℕ) (end : ℕ)
     → position is_end rest ≡ Some end → Ran start s before mid ready taken (kept ++ rest)
@@ -500,15 +489,15 @@ line_ran s t before now ready left line none played others =
     }
 
 -- a piece ends within a line
-pub line_piece : (how : SimEnd) (s : Sim) (before now : Option (List ℕ)) (ready line : List ℕ) (failures_before failures_now : ℕ)
-    → NoEnd line → LineEnds (Err how) (with_text ready s) line before now failures_before failures_now
-    → (others : List ℕ) → PieceEnds (Err how) (with_text ready s) before now (line ++ 10 ∷ others) failures_before failures_now
+pub line_piece : (how : SimEnd) (s : Sim) (before now : Written) (ready line : List ℕ)
+    → NoEnd line → LineEnds (Err how) (with_text ready s) line before now
+    → (others : List ℕ) → PieceEnds (Err how) (with_text ready s) before now (line ++ 10 ∷ others)
 unfolding take_lines begun_first
-line_piece Done s before now ready line failures_before failures_now none ends others = ends
-line_piece (LineRefused number) s before now ready line failures_before failures_now none ends others = ends
-line_piece HistoryFull s before now ready line failures_before failures_now none ends others = ends
-line_piece InputFailed s before now ready line failures_before failures_now none ends others = ends
-line_piece OutputFailed s before now ready line failures_before failures_now none ends others =
+line_piece Done s before now ready line none ends others = ends
+line_piece (LineRefused number) s before now ready line none ends others = ends
+line_piece HistoryFull s before now ready line none ends others = ends
+line_piece InputFailed s before now ready line none ends others = ends
+line_piece OutputFailed s before now ready line none ends others =
     let start : Sim = with_text ready s in (
       record {
         text = ends.0.front;
@@ -519,7 +508,7 @@ line_piece OutputFailed s before now ready line failures_before failures_now non
       },
       ends.1,
     )
-line_piece Memory s before now ready line failures_before failures_now none ends others =
+line_piece Memory s before now ready line none ends others =
     record {
       lines = [];
       others = λ more. line ∷ lines_of (others ++ more);
@@ -540,16 +529,14 @@ pub line_ran_where : (result : Result (Unit {0}) SimEnd) (s t : Sim) (before now
 line_ran_where (Ok u) s t before now ready left line none played = λ others. line_ran s t before now ready left line none played others
 line_ran_where (Err how) s t before now ready left line none played = tt
 
-pub line_piece_where : (result : Result (Unit {0}) SimEnd) (s : Sim) (before now : Option (List ℕ)) (ready line : List ℕ) (failures_before failures_now : ℕ)
-    → NoEnd line → LineEnds result (with_text ready s) line before now failures_before failures_now
-    → (others : List ℕ) → PieceEnds result (with_text ready s) before now (line ++ 10 ∷ others) failures_before failures_now
-line_piece_where (Ok u) s before now ready line failures_before failures_now none ends others = tt
-line_piece_where (Err how) s before now ready line failures_before failures_now none ends others =
-    line_piece how s before now ready line failures_before failures_now none ends others
+pub line_piece_where : (result : Result (Unit {0}) SimEnd) (s : Sim) (before now : Written) (ready line : List ℕ)
+    → NoEnd line → LineEnds result (with_text ready s) line before now
+    → (others : List ℕ) → PieceEnds result (with_text ready s) before now (line ++ 10 ∷ others)
+line_piece_where (Ok u) s before now ready line none ends others = tt
+line_piece_where (Err how) s before now ready line none ends others = line_piece how s before now ready line none ends others
 
 -- no line is served for want of memory
-pub piece_flushed : (how : SimEnd) (s : Sim) (before now : Option (List ℕ)) (ready waiting : List ℕ) (failures_before failures_now : ℕ)
-    → Flushes how before now ready failures_before failures_now
-    → PieceEnds (Err how) (with_text ready s) before now waiting failures_before failures_now
-piece_flushed how s before now ready waiting failures_before failures_now flushes =
-    flushed how (with_text ready s) s before before now ready waiting waiting failures_before failures_now (ran_start s before ready waiting) flushes
+pub piece_flushed : (how : SimEnd) (s : Sim) (before now : Written) (ready waiting : List ℕ)
+    → Flushes how before now ready → PieceEnds (Err how) (with_text ready s) before now waiting
+piece_flushed how s before now ready waiting flushes =
+    flushed how (with_text ready s) s before before now ready waiting waiting (ran_start s before.bytes ready waiting) (omega arith) flushes

@@ -1,9 +1,27 @@
--- What a reader's or a writer's call says of its failures (own).
+-- What readers and writers show, and what a call of one says of its failures (own).
 use Rattle.std.specs.Prelude.{◌≡◌, ℕ, ◌+◌, ◌<◌, ◌≤◌, List, ◌++◌, length, Option, Result, OnErr, IfOk, IfErr}
 use Rattle.std.specs.Io.KnownBytes.{Appends}
 use Rattle.std.specs.IoError.{error_kind}
 use Rattle.std.specs.declared.io.Error.{Error}
 use Rattle.std.specs.declared.io.ErrorKind.TheVariants.{Interrupted}
+
+-- what a reader shows: the bytes that are left, where they are known, and how often it has failed
+pub record Readable : Type 0 where
+  pub left : Option (List ℕ)
+  pub failures : ℕ
+
+-- what a writer shows: the bytes that were written, where they are known, and how often it has failed
+pub record Written : Type 0 where
+  pub bytes : Option (List ℕ)
+  pub failures : ℕ
+
+-- what both show
+pub record Devices : Type 0 where
+  pub input : Readable
+  pub output : Written
+
+abbrev pub devices : Readable → Written → Devices
+devices unread written = record { input = unread; output = written }
 
 -- failures are counted: an error is one, and a call makes no more than one
 pub record CountsErrors {T E : Type 0} (before now : ℕ) (result : Result T E) : Type 0 where

@@ -6,7 +6,7 @@ use Rattle.otp_sim.specs.declared.engine.TheConstants.{MOST_BYTES}
 use Rattle.otp_sim.specs.declared.engine.SimEnd.{SimEnd}
 use Rattle.otp_sim.specs.declared.engine.SimEnd.TheVariants.{Done, LineRefused, HistoryFull, InputFailed, OutputFailed, Memory}
 use Rattle.otp_sim.specs.declared.driven.Stop.{Stop}
-use Rattle.otp_sim.specs.Devices.{Begins, AppendsPart}
+use Rattle.otp_sim.specs.Devices.{Begins, AppendsPart, Devices, Written}
 use Rattle.otp_sim.specs.Sim.{Sim, begin_line, followed, take_line, take_lines, lines_of, sim_text, sim_end, whole_text, end_of}
 
 -- with this text printed so far
@@ -35,6 +35,14 @@ pub record Ran (start s : Sim) (before now : Option (List ℕ)) (ready taken wai
   pub appended : Appends before now written
   pub served : Served start taken waiting (with_text (written ++ ready) s)
 
+-- the same from a state with this text ready
+abbrev pub RanFrom : List ℕ → Sim → Sim → Written → Written → List ℕ → List ℕ → List ℕ → Type 0
+RanFrom ready s t before now left taken waiting = Ran (with_text ready s) t before.bytes now.bytes left taken waiting
+
+-- from there one line was served, whatever comes after it
+abbrev pub RanLine : List ℕ → Sim → Sim → Written → Written → List ℕ → List ℕ → Type 0
+RanLine ready s t before now left line = (others : List ℕ) → RanFrom ready s t before now left (line ++ 10 ∷ others) others
+
 -- the writer got the text of all of the input, and it ended so
 pub record WroteAll (start : Sim) (before now : Option (List ℕ)) (how : SimEnd) (bytes : List ℕ) : Type 0 where
   pub text : Appends before now (sim_text start bytes)
@@ -55,31 +63,23 @@ pub record WroteFirst (start : Sim) (before now : Option (List ℕ)) (bytes : Li
   pub text : Appends before now (begun_first events others (take_lines lines start)).text
 
 -- the writer got the text of the lines whose LF was read, and then the reader failed or had given the most bytes that are read
-pub record WroteLines (start : Sim) (left_before left_now before now : Option (List ℕ)) (failures_before failures_now : ℕ) : Type 0 where
+pub record WroteLines (start : Sim) (old new : Devices) : Type 0 where
   pub taken : List ℕ
-  pub consumed : Consumes left_before left_now taken
-  pub written : Appends before now (whole_text start taken)
-  pub why : (failures_before < failures_now) ⊎ (MOST_BYTES ≤ length taken)
-
--- what a reader and a writer show: the bytes that are left and those that were written, where they are known, and
--- how often each has failed
-pub record Devices : Type 0 where
-  pub left : Option (List ℕ)
-  pub written : Option (List ℕ)
-  pub read_failures : ℕ
-  pub write_failures : ℕ
+  pub consumed : Consumes old.input.left new.input.left taken
+  pub written : Appends old.output.bytes new.output.bytes (whole_text start taken)
+  pub why : (old.input.failures < new.input.failures) ⊎ (MOST_BYTES ≤ length taken)
 
 -- all that was ready was written, and nothing is left to write
 pub record Told (old new : Devices) (ready left : List ℕ) : Type 0 where
-  pub written : Appends old.written new.written ready
+  pub written : Appends old.output.bytes new.output.bytes ready
   pub none_left : left ≡ []
-  pub failures : old.write_failures ≤ new.write_failures
+  pub failures : old.output.failures ≤ new.output.failures
 
 -- so many bytes were read into a buffer, none only at the end of the input
 pub record Took (count : ℕ) (old new : Devices) (buffer : List ℕ) : Type 0 where
-  pub bytes : Consumes old.left new.left (take count buffer)
-  pub end : count ≡ 0 → 0 < length buffer → IsAtEnd new.left
-  pub failures : old.read_failures ≤ new.read_failures
+  pub bytes : Consumes old.input.left new.input.left (take count buffer)
+  pub end : count ≡ 0 → 0 < length buffer → IsAtEnd new.input.left
+  pub failures : old.input.failures ≤ new.input.failures
 
 -- what is ready is written, and only then the input is read: where the writer fails, nothing was read
 abbrev pub ReadsNext : Result ℕ SimEnd → Devices → Devices → List ℕ → List ℕ → List ℕ → Type 0
@@ -87,39 +87,39 @@ ReadsNext (Ok count) old new ready left buffer = Told old new ready left × Took
 ReadsNext (Err Done) old new ready left buffer = ⊥
 ReadsNext (Err (LineRefused _)) old new ready left buffer = ⊥
 ReadsNext (Err HistoryFull) old new ready left buffer = ⊥
-ReadsNext (Err InputFailed) old new ready left buffer = Told old new ready left × Keeps old.left new.left × (old.read_failures < new.read_failures)
+ReadsNext (Err InputFailed) old new ready left buffer = Told old new ready left × Keeps old.input.left new.input.left × (old.input.failures < new.input.failures)
 ReadsNext (Err OutputFailed) old new ready left buffer =
-    (new.left ≡ old.left) × (new.read_failures ≡ old.read_failures)
-    × AppendsPart old.written new.written ready × (old.write_failures < new.write_failures)
+    (new.input.left ≡ old.input.left) × (new.input.failures ≡ old.input.failures)
+    × AppendsPart old.output.bytes new.output.bytes ready × (old.output.failures < new.output.failures)
 ReadsNext (Err Memory) old new ready left buffer = ⊥
 
 -- what is ready is written where the lines end for this reason, or for none
-abbrev pub Finishes : SimEnd → Option Stop → Option (List ℕ) → Option (List ℕ) → List ℕ → ℕ → ℕ → Type 0
-Finishes Done reason before now ready failures_before failures_now = Appends before now ready × (Done ≡ end_of reason)
-Finishes (LineRefused line) reason before now ready failures_before failures_now = Appends before now ready × (LineRefused line ≡ end_of reason)
-Finishes HistoryFull reason before now ready failures_before failures_now = Appends before now ready × (HistoryFull ≡ end_of reason)
-Finishes InputFailed reason before now ready failures_before failures_now = ⊥
-Finishes OutputFailed reason before now ready failures_before failures_now = AppendsPart before now ready × (failures_before < failures_now)
-Finishes Memory reason before now ready failures_before failures_now = ⊥
+abbrev pub Finishes : SimEnd → Option Stop → Written → Written → List ℕ → Type 0
+Finishes Done reason before now ready = Appends before.bytes now.bytes ready × (Done ≡ end_of reason)
+Finishes (LineRefused line) reason before now ready = Appends before.bytes now.bytes ready × (LineRefused line ≡ end_of reason)
+Finishes HistoryFull reason before now ready = Appends before.bytes now.bytes ready × (HistoryFull ≡ end_of reason)
+Finishes InputFailed reason before now ready = ⊥
+Finishes OutputFailed reason before now ready = AppendsPart before.bytes now.bytes ready × (before.failures < now.failures)
+Finishes Memory reason before now ready = ⊥
 
 -- what was written from this start on, by how the run ended
 abbrev pub Writes : SimEnd → Sim → Devices → Devices → Type 0
-Writes Done start old new = IfSome old.left (WroteAll start old.written new.written Done)
-Writes (LineRefused line) start old new = IfSome old.left (WroteAll start old.written new.written (LineRefused line))
-Writes HistoryFull start old new = IfSome old.left (WroteAll start old.written new.written HistoryFull)
-Writes InputFailed start old new = WroteLines start old.left new.left old.written new.written old.read_failures new.read_failures
-Writes OutputFailed start old new = IfSome old.left (WrotePart start old.written new.written) × (old.write_failures < new.write_failures)
+Writes Done start old new = IfSome old.input.left (WroteAll start old.output.bytes new.output.bytes Done)
+Writes (LineRefused line) start old new = IfSome old.input.left (WroteAll start old.output.bytes new.output.bytes (LineRefused line))
+Writes HistoryFull start old new = IfSome old.input.left (WroteAll start old.output.bytes new.output.bytes HistoryFull)
+Writes InputFailed start old new = WroteLines start old new
+Writes OutputFailed start old new = IfSome old.input.left (WrotePart start old.output.bytes new.output.bytes) × (old.output.failures < new.output.failures)
 -- before the supervisor was opened, or later
-Writes Memory start old new = (new ≡ old) ⊎ IfSome old.left (WroteFirst start old.written new.written)
+Writes Memory start old new = (new ≡ old) ⊎ IfSome old.input.left (WroteFirst start old.output.bytes new.output.bytes)
 
 -- for want of memory what was ready was written, or the writer failed in it
-abbrev pub Flushes : SimEnd → Option (List ℕ) → Option (List ℕ) → List ℕ → ℕ → ℕ → Type 0
-Flushes Done before now ready failures_before failures_now = ⊥
-Flushes (LineRefused _) before now ready failures_before failures_now = ⊥
-Flushes HistoryFull before now ready failures_before failures_now = ⊥
-Flushes InputFailed before now ready failures_before failures_now = ⊥
-Flushes OutputFailed before now ready failures_before failures_now = AppendsPart before now ready × (failures_before < failures_now)
-Flushes Memory before now ready failures_before failures_now = Appends before now ready
+abbrev pub Flushes : SimEnd → Written → Written → List ℕ → Type 0
+Flushes Done before now ready = ⊥
+Flushes (LineRefused _) before now ready = ⊥
+Flushes HistoryFull before now ready = ⊥
+Flushes InputFailed before now ready = ⊥
+Flushes OutputFailed before now ready = AppendsPart before.bytes now.bytes ready × (before.failures < now.failures)
+Flushes Memory before now ready = Appends before.bytes now.bytes ready
 
 -- a line is played from one state on, and has come to another; part of the text has been written, and part is ready to be
 pub record Played (from to : Sim) (line : List ℕ) (before now : Option (List ℕ)) (ready : List ℕ) : Type 0 where
@@ -133,23 +133,23 @@ pub record Stopped (from : Sim) (line : List ℕ) (before now : Option (List ℕ
   pub text : Appends before now (begun events line from).text
 
 -- playing a line ends for want of memory, or because the writer failed in it
-abbrev pub LineEnds : Result (Unit {0}) SimEnd → Sim → List ℕ → Option (List ℕ) → Option (List ℕ) → ℕ → ℕ → Type 0
-LineEnds (Ok _) from line before now failures_before failures_now = Unit {0}
-LineEnds (Err Done) from line before now failures_before failures_now = ⊥
-LineEnds (Err (LineRefused _)) from line before now failures_before failures_now = ⊥
-LineEnds (Err HistoryFull) from line before now failures_before failures_now = ⊥
-LineEnds (Err InputFailed) from line before now failures_before failures_now = ⊥
-LineEnds (Err OutputFailed) from line before now failures_before failures_now = AppendsPart before now (take_line line from).text × (failures_before < failures_now)
-LineEnds (Err Memory) from line before now failures_before failures_now = Stopped from line before now
+abbrev pub LineEnds : Result (Unit {0}) SimEnd → Sim → List ℕ → Written → Written → Type 0
+LineEnds (Ok _) from line before now = Unit {0}
+LineEnds (Err Done) from line before now = ⊥
+LineEnds (Err (LineRefused _)) from line before now = ⊥
+LineEnds (Err HistoryFull) from line before now = ⊥
+LineEnds (Err InputFailed) from line before now = ⊥
+LineEnds (Err OutputFailed) from line before now = AppendsPart before.bytes now.bytes (take_line line from).text × (before.failures < now.failures)
+LineEnds (Err Memory) from line before now = Stopped from line before.bytes now.bytes
 
 -- from s on a last line was served, and its text written, by how that ended
-abbrev pub LastWrites : SimEnd → List ℕ → Sim → Option (List ℕ) → Option (List ℕ) → ℕ → ℕ → Type 0
-LastWrites Done line s before now failures_before failures_now = Appends before now (take_line line s).text × (Done ≡ end_of (take_line line s).end)
-LastWrites (LineRefused number) line s before now failures_before failures_now = Appends before now (take_line line s).text × (LineRefused number ≡ end_of (take_line line s).end)
-LastWrites HistoryFull line s before now failures_before failures_now = Appends before now (take_line line s).text × (HistoryFull ≡ end_of (take_line line s).end)
-LastWrites InputFailed line s before now failures_before failures_now = ⊥
-LastWrites OutputFailed line s before now failures_before failures_now = AppendsPart before now (take_line line s).text × (failures_before < failures_now)
-LastWrites Memory line s before now failures_before failures_now = Stopped s line before now
+abbrev pub LastWrites : SimEnd → List ℕ → Sim → Written → Written → Type 0
+LastWrites Done line s before now = Appends before.bytes now.bytes (take_line line s).text × (Done ≡ end_of (take_line line s).end)
+LastWrites (LineRefused number) line s before now = Appends before.bytes now.bytes (take_line line s).text × (LineRefused number ≡ end_of (take_line line s).end)
+LastWrites HistoryFull line s before now = Appends before.bytes now.bytes (take_line line s).text × (HistoryFull ≡ end_of (take_line line s).end)
+LastWrites InputFailed line s before now = ⊥
+LastWrites OutputFailed line s before now = AppendsPart before.bytes now.bytes (take_line line s).text × (before.failures < now.failures)
+LastWrites Memory line s before now = Stopped s line before.bytes now.bytes
 
 -- only a beginning was written, however the input goes on
 pub record Broke (start : Sim) (before now : Option (List ℕ)) (taken : List ℕ) : Type 0 where
@@ -167,14 +167,14 @@ pub record Halted (start : Sim) (before now : Option (List ℕ)) (taken : List �
   pub text : (more : List ℕ) → Appends before now (begun_first events (others more) (take_lines lines start)).text
 
 -- serving a piece of the input ends for want of memory, or because the writer failed in it
-abbrev pub PieceEnds : Result (Unit {0}) SimEnd → Sim → Option (List ℕ) → Option (List ℕ) → List ℕ → ℕ → ℕ → Type 0
-PieceEnds (Ok _) start before now taken failures_before failures_now = Unit {0}
-PieceEnds (Err Done) start before now taken failures_before failures_now = ⊥
-PieceEnds (Err (LineRefused _)) start before now taken failures_before failures_now = ⊥
-PieceEnds (Err HistoryFull) start before now taken failures_before failures_now = ⊥
-PieceEnds (Err InputFailed) start before now taken failures_before failures_now = ⊥
-PieceEnds (Err OutputFailed) start before now taken failures_before failures_now = Broke start before now taken × (failures_before < failures_now)
-PieceEnds (Err Memory) start before now taken failures_before failures_now = Halted start before now taken
+abbrev pub PieceEnds : Result (Unit {0}) SimEnd → Sim → Written → Written → List ℕ → Type 0
+PieceEnds (Ok _) start before now taken = Unit {0}
+PieceEnds (Err Done) start before now taken = ⊥
+PieceEnds (Err (LineRefused _)) start before now taken = ⊥
+PieceEnds (Err HistoryFull) start before now taken = ⊥
+PieceEnds (Err InputFailed) start before now taken = ⊥
+PieceEnds (Err OutputFailed) start before now taken = Broke start before.bytes now.bytes taken × (before.failures < now.failures)
+PieceEnds (Err Memory) start before now taken = Halted start before.bytes now.bytes taken
 
 -- no byte is the end of a line
 abbrev pub NoEnd : List ℕ → Type 0

@@ -1,6 +1,7 @@
 //! The engine of `sim`: lines in, orders out.
 
 ghost use Rattle.std.specs.Prelude.{◌≡◌, ◌+◌, ◌<◌, IfOk, None, vec_len};
+ghost use Rattle.otp_sim.specs.Devices.{devices};
 ghost use Rattle.otp_sim.specs.Runs.{Writes, LastWrites, with_text};
 ghost use Rattle.otp_sim.specs.Sim.{opened};
 ghost use Rattle.otp_sim.specs.declared.driven.TheConstants.{LINE_LIMIT};
@@ -52,8 +53,8 @@ pub fn sim<R: Input, W: Output>(
     output: &mut W,
 ) -> SimEnd
     ensures { Writes result (opened supervisor.flags supervisor.specs)
-        (record { left = R.remaining input.old; written = W.contents output.old; read_failures = R.failures input.old; write_failures = W.failures output.old })
-        (record { left = R.remaining input.new; written = W.contents output.new; read_failures = R.failures input.new; write_failures = W.failures output.new }) }
+        (devices (R.seen input.old) (W.seen output.old))
+        (devices (R.seen input.new) (W.seen output.new)) }
 {
     let mut ready = Vec::new(alloc);
     let Ok(mut player) = Player::open(alloc, supervisor, &mut ready) else {
@@ -75,8 +76,8 @@ pub fn serve<S: Driven, R: Input, W: Output>(
 ) -> SimEnd
     requires { (S.sim driven.old).lines ≡ 0 }
     ensures { Writes result (with_text ready.old.items (S.sim driven.old))
-        (record { left = R.remaining input.old; written = W.contents output.old; read_failures = R.failures input.old; write_failures = W.failures output.old })
-        (record { left = R.remaining input.new; written = W.contents output.new; read_failures = R.failures input.new; write_failures = W.failures output.new }) }
+        (devices (R.seen input.old) (W.seen output.old))
+        (devices (R.seen input.new) (W.seen output.new)) }
 {
     let Ok(mut buffer) = zeros(alloc, PIECE) else {
         return out_of_memory(output, ready);
@@ -123,7 +124,7 @@ fn serve_last<S: Driven, W: Output>(
     output: &mut W,
 ) -> SimEnd
     requires { (S.sim driven.old).lines + 1 < LINE_LIMIT }
-    ensures { LastWrites result line.now (with_text ready.old.items (S.sim driven.old)) (W.contents output.old) (W.contents output.new) (W.failures output.old) (W.failures output.new) }
+    ensures { LastWrites result line.now (with_text ready.old.items (S.sim driven.old)) (W.seen output.old) (W.seen output.new) }
 {
     if let Err(end) = serve_line(driven, ready, output, line) {
         return end;

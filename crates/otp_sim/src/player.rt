@@ -1,7 +1,8 @@
 //! A supervisor's core that is played: lines are turned into events, and orders into text.
 
-ghost use Rattle.std.specs.Prelude.{ℕ, [], ◌≡◌, ◌+◌, ◌<◌, ◌≤◌, ◌++◌, None, Some, OnOk, OnErr, IfOk, IfSome, is_some, option_map};
-ghost use Rattle.otp_text.specs.Lines.{IsTimely, line_of};
+ghost use Rattle.std.specs.Prelude.{ℕ, [], ◌≡◌, ◌+◌, ◌<◌, ◌≤◌, ◌++◌, None, Some, OnOk, OnErr, IfOk, IfSome, is_some, option_copied, option_map};
+ghost use Rattle.otp_text.specs.Lines.{IsTimely, line_with};
+ghost use Rattle.otp_text.specs.Words.{words_left};
 ghost use Rattle.otp_text.specs.declared.line.Line.TheVariants as said;
 ghost use Rattle.std.specs.List.{flat_map};
 ghost use Rattle.otp_core.specs.View.{state_of, stored_state};
@@ -18,7 +19,7 @@ use otp_core::{Core, Counter, ReplyAnswer};
 use otp_reason::Note;
 use otp_rules::{Effect, Item, Kind, Reply};
 use otp_spec::SupSpec;
-use otp_text::{Line, Printer, read_line, read_note};
+use otp_text::{Line, Printer, Verb, cut_verb, read_line_with, read_note_with};
 use std::alloc::{AllocError, Global};
 use std::marker::Model;
 
@@ -229,7 +230,7 @@ impl Player {
     /// # Errors
     ///
     /// Where memory is refused. Then part of the text may have been appended, and the player is not used again.
-    #[tactic(auto, unfolding(crate::specs::Sim::begin_line, crate::specs::Sim::begin_form))]
+    #[tactic(auto, unfolding(crate::specs::Sim::begin_line, crate::specs::Sim::begin_form, crate::specs::Sim::take_read, otp_text::specs::Lines::line_without_verb))]
     pub(crate) fn play_line(&mut self, line: &[u8], out: &mut Vec<u8>) -> Result<(), AllocError>
         requires { self.old.lines + 1 < LINE_LIMIT }
         ensures ok { OnOk result (with_text out.new.items self.new ≡ begin_line line.now (with_text out.old.items self.old)) }
@@ -240,23 +241,52 @@ impl Player {
             return Ok(());
         }
         self.lines += 1;
-        match read_note(line) {
+        match cut_verb(line) {
+            Some((verb, rest)) => self.play_verb(verb, rest, out),
+            None if line.is_empty() => Ok(()),
+            None => {
+                self.end = Some(Stop::LineRefused(self.lines));
+                Ok(())
+            }
+        }
+    }
+
+    /// What a line with this verb, and these words after it, does by itself.
+    #[tactic(auto, unfolding(crate::specs::Sim::begin_form))]
+    fn play_verb(
+        &mut self,
+        verb: Verb,
+        rest: Option<&[u8]>,
+        out: &mut Vec<u8>,
+    ) -> Result<(), AllocError>
+        requires calls { self.old.calls < self.old.lines }
+        requires lines { self.old.lines < LINE_LIMIT }
+        ensures ok { OnOk result (with_text out.new.items self.new ≡ begin_form (line_with verb (words_left (option_copied rest.entry))) (with_text out.old.items self.old)) }
+        ensures kept { Begins out.old.items out.new.items }
+        ensures lines { self.new.lines ≡ self.old.lines }
+    {
+        match read_note_with(verb, rest) {
             Some(note) => self.take_note(note, out),
-            None => self.play_other(line, out),
+            None => self.play_other(verb, rest, out),
         }
     }
 
     /// What a line does by itself that is no note, or has no form. It stands apart from the notes, which are most lines:
     /// what any line may say is several times as large.
     #[inline(never)]
-    fn play_other(&mut self, line: &[u8], out: &mut Vec<u8>) -> Result<(), AllocError>
+    fn play_other(
+        &mut self,
+        verb: Verb,
+        rest: Option<&[u8]>,
+        out: &mut Vec<u8>,
+    ) -> Result<(), AllocError>
         requires calls { self.old.calls < self.old.lines }
         requires lines { self.old.lines < LINE_LIMIT }
-        ensures ok { OnOk result (with_text out.new.items self.new ≡ begin_form (line_of line.now) (with_text out.old.items self.old)) }
+        ensures ok { OnOk result (with_text out.new.items self.new ≡ begin_form (line_with verb (words_left (option_copied rest.entry))) (with_text out.old.items self.old)) }
         ensures kept { Begins out.old.items out.new.items }
         ensures lines { self.new.lines ≡ self.old.lines }
     {
-        self.begin_form(read_line(line), out)
+        self.begin_form(read_line_with(verb, rest), out)
     }
 
     /// Why no line is taken any more, if none is.

@@ -3,6 +3,7 @@
 ghost use Rattle.std.specs.Prelude.{◌≤◌, length};
 ghost use Rattle.std.specs.Io.{ReadsAtMost};
 ghost use Rattle.otp_sim.specs.declared.device.TheConstants.{PIECE};
+ghost use Rattle.otp_sim.specs.Devices.{devices};
 ghost use Rattle.otp_sim.specs.Runs.{ReadsNext};
 
 use crate::device::{Input, Output};
@@ -26,8 +27,8 @@ pub(crate) fn read_next<R: Input, W: Output>(
     requires room { PIECE ≤ length buffer.old }
     ensures bound { ReadsAtMost result buffer.new }
     ensures next { ReadsNext result
-        (record { left = R.remaining input.old; written = W.contents output.old; read_failures = R.failures input.old; write_failures = W.failures output.old })
-        (record { left = R.remaining input.new; written = W.contents output.new; read_failures = R.failures input.new; write_failures = W.failures output.new })
+        (devices (R.seen input.old) (W.seen output.old))
+        (devices (R.seen input.new) (W.seen output.new))
         ready.old.items ready.new.items buffer.new }
 {
     let Ok(()) = write_out(output, ready) else {

@@ -1,7 +1,7 @@
 //! Serving the lines of the input as it comes.
 
 ghost use Rattle.std.specs.Prelude.{◌≡◌, ◌==◌, ◌∷◌, ℕ, List, ◌+◌, ◌<◌, ◌≤◌, ◌++◌, [], length, position, OnOk, OnErr, IfSome};
-ghost use Rattle.otp_sim.specs.Runs.{with_text, LineEnds, Played, Ran, PieceEnds, NoEnd};
+ghost use Rattle.otp_sim.specs.Runs.{with_text, LineEnds, Played, PieceEnds, RanFrom, RanLine, NoEnd};
 ghost use Rattle.otp_sim.specs.declared.driven.TheConstants.{LINE_LIMIT};
 
 use crate::device::Output;
@@ -24,11 +24,11 @@ pub(crate) fn serve_piece<S: Driven, W: Output>(
 ) -> Result<(), SimEnd>
     requires lines { (S.sim driven.old).lines + length piece.now < LINE_LIMIT }
     requires kept { NoEnd kept.old.items }
-    ensures ok { OnOk result (Ran (with_text ready.old.items (S.sim driven.old)) (S.sim driven.new) (W.contents output.old) (W.contents output.new) ready.new.items (kept.old.items ++ piece.now) kept.new.items) }
+    ensures ok { OnOk result (RanFrom ready.old.items (S.sim driven.old) (S.sim driven.new) (W.seen output.old) (W.seen output.new) ready.new.items (kept.old.items ++ piece.now) kept.new.items) }
     ensures no_end { OnOk result (NoEnd kept.new.items) }
     ensures lines { OnOk result ((S.sim driven.new).lines ≤ (S.sim driven.old).lines + length piece.now) }
-    ensures err { PieceEnds result (with_text ready.old.items (S.sim driven.old)) (W.contents output.old) (W.contents output.new) (kept.old.items ++ piece.now) (W.failures output.old) (W.failures output.new) }
-    ensures failures { W.failures output.old ≤ W.failures output.new }
+    ensures err { PieceEnds result (with_text ready.old.items (S.sim driven.old)) (W.seen output.old) (W.seen output.new) (kept.old.items ++ piece.now) }
+    ensures failures { (W.seen output.old).failures ≤ (W.seen output.new).failures }
 {
     let mut rest = piece;
     while let Some(end) = line_end(rest) {
@@ -53,11 +53,11 @@ fn serve_next<S: Driven, W: Output>(
 ) -> Result<(), SimEnd>
     requires lines { (S.sim driven.old).lines + 1 < LINE_LIMIT }
     requires kept { NoEnd (kept.old.items ++ part.now) }
-    ensures ok { OnOk result ((others : List ℕ) → Ran (with_text ready.old.items (S.sim driven.old)) (S.sim driven.new) (W.contents output.old) (W.contents output.new) ready.new.items (kept.old.items ++ part.now ++ 10 ∷ others) others) }
+    ensures ok { OnOk result (RanLine ready.old.items (S.sim driven.old) (S.sim driven.new) (W.seen output.old) (W.seen output.new) ready.new.items (kept.old.items ++ part.now)) }
     ensures empty { OnOk result (kept.new.items ≡ []) }
     ensures lines { OnOk result ((S.sim driven.new).lines ≤ (S.sim driven.old).lines + 1) }
-    ensures err { (others : List ℕ) → PieceEnds result (with_text ready.old.items (S.sim driven.old)) (W.contents output.old) (W.contents output.new) (kept.old.items ++ part.now ++ 10 ∷ others) (W.failures output.old) (W.failures output.new) }
-    ensures failures { W.failures output.old ≤ W.failures output.new }
+    ensures err { (others : List ℕ) → PieceEnds result (with_text ready.old.items (S.sim driven.old)) (W.seen output.old) (W.seen output.new) (kept.old.items ++ part.now ++ 10 ∷ others) }
+    ensures failures { (W.seen output.old).failures ≤ (W.seen output.new).failures }
 {
     if kept.is_empty() {
         return serve_line(driven, ready, output, part);
@@ -94,10 +94,10 @@ pub(crate) fn serve_line<S: Driven, W: Output>(
     line: &[u8],
 ) -> Result<(), SimEnd>
     requires { (S.sim driven.old).lines + 1 < LINE_LIMIT }
-    ensures ok { OnOk result (Played (with_text ready.old.items (S.sim driven.old)) (S.sim driven.new) line.now (W.contents output.old) (W.contents output.new) ready.new.items) }
+    ensures ok { OnOk result (Played (with_text ready.old.items (S.sim driven.old)) (S.sim driven.new) line.now (W.seen output.old).bytes (W.seen output.new).bytes ready.new.items) }
     ensures lines { OnOk result ((S.sim driven.new).lines ≤ (S.sim driven.old).lines + 1) }
-    ensures err { LineEnds result (with_text ready.old.items (S.sim driven.old)) line.now (W.contents output.old) (W.contents output.new) (W.failures output.old) (W.failures output.new) }
-    ensures failures { W.failures output.old ≤ W.failures output.new }
+    ensures err { LineEnds result (with_text ready.old.items (S.sim driven.old)) line.now (W.seen output.old) (W.seen output.new) }
+    ensures failures { (W.seen output.old).failures ≤ (W.seen output.new).failures }
 {
     let Ok(()) = driven.begin_line(line, ready) else {
         return Err(out_of_memory(output, ready));

@@ -90,9 +90,7 @@ impl<D: Write> Counted<D> {
 }
 
 impl<D: Read> Input for Counted<D> {
-    ghost remaining = { λ counted. D.remaining counted.device };
-
-    ghost failures = { λ counted. counted.failures.count };
+    ghost seen = { λ counted. record { left = D.remaining counted.device; failures = counted.failures.count } };
 
     /// A read that was interrupted is made again.
     fn read(&mut self, buffer: &mut [u8]) -> Result<usize, Failed> {
@@ -108,9 +106,7 @@ impl<D: Read> Input for Counted<D> {
 }
 
 impl<D: Write> Output for Counted<D> {
-    ghost contents = { λ counted. D.contents counted.device };
-
-    ghost failures = { λ counted. counted.failures.count };
+    ghost seen = { λ counted. record { bytes = D.contents counted.device; failures = counted.failures.count } };
 
     /// A write that was interrupted is made again.
     fn write(&mut self, bytes: &[u8]) -> Result<usize, Failed> {

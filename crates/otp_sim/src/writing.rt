@@ -17,12 +17,12 @@ use crate::engine::SimEnd;
 ///
 /// Where a write fails or takes nothing; a beginning was written.
 pub(crate) fn write_much<W: Output>(output: &mut W, ready: &mut Vec<u8>) -> Result<(), Failed>
-    ensures ok { OnOk result (Moves (W.contents output.old) (W.contents output.new) ready.old.items ready.new.items) }
+    ensures ok { OnOk result (Moves (W.seen output.old).bytes (W.seen output.new).bytes ready.old.items ready.new.items) }
     ensures little { OnOk result (length ready.new.items < PIECE) }
     ensures waits { length ready.old.items < PIECE → (ready.new.items ≡ ready.old.items) × (output.new ≡ output.old) }
-    ensures part { AppendsPart (W.contents output.old) (W.contents output.new) ready.old.items }
-    ensures kept { W.failures output.old ≤ W.failures output.new }
-    ensures failed { OnErr result (W.failures output.old < W.failures output.new) }
+    ensures part { AppendsPart (W.seen output.old).bytes (W.seen output.new).bytes ready.old.items }
+    ensures kept { (W.seen output.old).failures ≤ (W.seen output.new).failures }
+    ensures failed { OnErr result ((W.seen output.old).failures < (W.seen output.new).failures) }
 {
     if ready.len() < PIECE {
         return Ok(());
@@ -36,11 +36,11 @@ pub(crate) fn write_much<W: Output>(output: &mut W, ready: &mut Vec<u8>) -> Resu
 ///
 /// Where a write fails or takes nothing; a beginning was written.
 pub(crate) fn write_out<W: Output>(output: &mut W, ready: &mut Vec<u8>) -> Result<(), Failed>
-    ensures ok { OnOk result (Appends (W.contents output.old) (W.contents output.new) ready.old.items) }
+    ensures ok { OnOk result (Appends (W.seen output.old).bytes (W.seen output.new).bytes ready.old.items) }
     ensures empty { OnOk result (ready.new.items ≡ []) }
-    ensures part { AppendsPart (W.contents output.old) (W.contents output.new) ready.old.items }
-    ensures kept { W.failures output.old ≤ W.failures output.new }
-    ensures failed { OnErr result (W.failures output.old < W.failures output.new) }
+    ensures part { AppendsPart (W.seen output.old).bytes (W.seen output.new).bytes ready.old.items }
+    ensures kept { (W.seen output.old).failures ≤ (W.seen output.new).failures }
+    ensures failed { OnErr result ((W.seen output.old).failures < (W.seen output.new).failures) }
 {
     write_all(output, ready.as_slice())?;
     ready.clear();
@@ -51,8 +51,8 @@ pub(crate) fn write_out<W: Output>(output: &mut W, ready: &mut Vec<u8>) -> Resul
 ///
 /// Where that fails too, the run ends as one whose output failed.
 pub(crate) fn out_of_memory<W: Output>(output: &mut W, ready: &mut Vec<u8>) -> SimEnd
-    ensures end { Flushes result (W.contents output.old) (W.contents output.new) ready.old.items (W.failures output.old) (W.failures output.new) }
-    ensures kept { W.failures output.old ≤ W.failures output.new }
+    ensures end { Flushes result (W.seen output.old) (W.seen output.new) ready.old.items }
+    ensures kept { (W.seen output.old).failures ≤ (W.seen output.new).failures }
 {
     match write_out(output, ready) {
         Ok(()) => SimEnd::Memory,
@@ -62,8 +62,8 @@ pub(crate) fn out_of_memory<W: Output>(output: &mut W, ready: &mut Vec<u8>) -> S
 
 /// How a run ends whose lines end for this reason, or for none, once what is ready is written.
 pub(crate) fn finish<W: Output>(output: &mut W, ready: &mut Vec<u8>, stop: Option<Stop>) -> SimEnd
-    ensures end { Finishes result stop (W.contents output.old) (W.contents output.new) ready.old.items (W.failures output.old) (W.failures output.new) }
-    ensures kept { W.failures output.old ≤ W.failures output.new }
+    ensures end { Finishes result stop (W.seen output.old) (W.seen output.new) ready.old.items }
+    ensures kept { (W.seen output.old).failures ≤ (W.seen output.new).failures }
 {
     let Ok(()) = write_out(output, ready) else {
         return SimEnd::OutputFailed;
@@ -88,10 +88,10 @@ fn end_of(stop: Option<Stop>) -> SimEnd
 ///
 /// Where a write fails or takes nothing; a beginning was written.
 pub fn write_all<W: Output>(output: &mut W, bytes: &[u8]) -> Result<(), Failed>
-    ensures ok { OnOk result (Appends (W.contents output.old) (W.contents output.new) bytes.now) }
-    ensures part { AppendsPart (W.contents output.old) (W.contents output.new) bytes.now }
-    ensures kept { W.failures output.old ≤ W.failures output.new }
-    ensures failed { OnErr result (W.failures output.old < W.failures output.new) }
+    ensures ok { OnOk result (Appends (W.seen output.old).bytes (W.seen output.new).bytes bytes.now) }
+    ensures part { AppendsPart (W.seen output.old).bytes (W.seen output.new).bytes bytes.now }
+    ensures kept { (W.seen output.old).failures ≤ (W.seen output.new).failures }
+    ensures failed { OnErr result ((W.seen output.old).failures < (W.seen output.new).failures) }
 {
     let mut rest = bytes;
     while !rest.is_empty() {

@@ -17,4 +17,4 @@ pub use edge::{Edge, find_edge};
 pub use gap::{GapFault, LONGEST_GAP, read_gap};
 pub use refused::{Answer, instead};
 pub use time::read_time;
-pub use told::{write_advice, write_suggestion};
+pub use told::write_suggestion;

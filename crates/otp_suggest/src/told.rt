@@ -309,7 +309,7 @@ fn write_why(
 ///
 /// Where memory is refused.
 #[tactic(auto, unfolding(crate::specs::Told::advice_text))]
-pub fn write_advice(
+fn write_advice(
     alloc: Global,
     name: &[u8],
     path: &[u8],

@@ -210,18 +210,28 @@ fn kept_reply(core: &Core, call: u64) -> Option<&Reply>
     }
 }
 
+/// Orders that the core of a supervisor gave: when, at which path it stands, which starts it had ordered before, and whether all
+/// of them are told, or its end alone.
+#[derive(Clone, Copy)]
+pub struct Scene<'a> {
+    pub time: u64,
+    pub path: &'a [u8],
+    pub starts: &'a [Started],
+    pub tells: bool,
+}
+
 /// Appends an order as it is told: of an end also why.
 #[tactic(auto, unfolding(crate::specs::Story::order_text))]
 fn write_order(
-    path: &[u8],
-    starts: &[Started],
+    scene: &Scene<'_>,
     core: &Core,
     order: &Effect,
     printer: &mut Printer,
     out: &mut Vec<u8>,
 ) -> Result<(), AllocError>
-    ensures { OnOk result (out.new.items ≡ out.old.items ++ order_text path.now starts.now order.now (stored_state core.now).replies) }
+    ensures { OnOk result (out.new.items ≡ out.old.items ++ order_text scene.now.path.now scene.now.starts.now order.now (stored_state core.now).replies) }
 {
+    let path = scene.path;
     match order {
         Effect::Start(name, number) => write_child_order(b"start ", path, name, *number, out),
         Effect::Ask(name, number) => write_child_order(b"ask ", path, name, *number, out),
@@ -236,7 +246,7 @@ fn write_order(
         }
         Effect::End(end) => {
             write_heading(path, out)?;
-            write_end(path, starts, end, out)
+            write_end(path, scene.starts, end, out)
         }
     }
 }
@@ -244,19 +254,17 @@ fn write_order(
 /// Appends the line of an order that was given at this time.
 #[tactic(auto, unfolding(crate::specs::Story::told_line))]
 fn write_told(
-    time: u64,
-    path: &[u8],
-    starts: &[Started],
+    scene: &Scene<'_>,
     core: &Core,
     order: &Effect,
     printer: &mut Printer,
     out: &mut Vec<u8>,
 ) -> Result<(), AllocError>
-    ensures { OnOk result (out.new.items ≡ out.old.items ++ told_line time path.now starts.now (stored_state core.now).replies order.now) }
+    ensures { OnOk result (out.new.items ≡ out.old.items ++ told_line scene.now.time scene.now.path.now scene.now.starts.now (stored_state core.now).replies order.now) }
 {
-    write_time(time, out)?;
+    write_time(scene.time, out)?;
     out.extend_from_slice(b"  ")?;
-    write_order(path, starts, core, order, printer, out)
+    write_order(scene, core, order, printer, out)
 }
 
 /// Whether an order is told: all are, or an end alone.
@@ -274,19 +282,16 @@ fn is_told(tells: bool, order: &Effect) -> bool
 /// Appends the line of an order that was given at this time, if it is told.
 #[tactic(auto, unfolding(crate::specs::Story::line_if))]
 fn write_line_if(
-    time: u64,
-    path: &[u8],
-    tells: bool,
-    starts: &[Started],
+    scene: &Scene<'_>,
     core: &Core,
     order: &Effect,
     printer: &mut Printer,
     out: &mut Vec<u8>,
 ) -> Result<(), AllocError>
-    ensures { OnOk result (out.new.items ≡ out.old.items ++ line_if tells time path.now starts.now (stored_state core.now).replies order.now) }
+    ensures { OnOk result (out.new.items ≡ out.old.items ++ line_if scene.now.tells scene.now.time scene.now.path.now scene.now.starts.now (stored_state core.now).replies order.now) }
 {
-    if is_told(tells, order) {
-        write_told(time, path, starts, core, order, printer, out)
+    if is_told(scene.tells, order) {
+        write_told(scene, core, order, printer, out)
     } else {
         Ok(())
     }
@@ -295,44 +300,28 @@ fn write_line_if(
 /// Appends the lines of those orders that are told, which the core of the supervisor with this path gave at this time.
 #[tactic(auto, unfolding(crate::specs::Story::told_lines))]
 fn write_all(
-    time: u64,
-    path: &[u8],
-    tells: bool,
-    starts: &[Started],
+    scene: &Scene<'_>,
     core: &Core,
     orders: &[Effect],
     printer: &mut Printer,
     out: &mut Vec<u8>,
 ) -> Result<(), AllocError>
-    ensures { OnOk result (out.new.items ≡ out.old.items ++ told_lines tells time path.now starts.now (stored_state core.now).replies orders.now) }
+    ensures { OnOk result (out.new.items ≡ out.old.items ++ told_lines scene.now.tells scene.now.time scene.now.path.now scene.now.starts.now (stored_state core.now).replies orders.now) }
 {
     for order in orders {
-        write_line_if(time, path, tells, starts, core, order, printer, out)?;
+        write_line_if(scene, core, order, printer, out)?;
     }
     Ok(())
 }
 
-/// Appends the lines of the orders of a core that were not cleared, given at this time: of all, or of its end alone. Before,
-/// it had ordered these starts.
+/// Appends the lines of those orders of a core that were not cleared and are told.
 pub fn tell(
-    time: u64,
-    path: &[u8],
-    tells: bool,
-    starts: &[Started],
+    scene: &Scene<'_>,
     core: &Core,
     printer: &mut Printer,
     out: &mut Vec<u8>,
 ) -> Result<(), AllocError>
-    ensures { OnOk result (out.new.items ≡ out.old.items ++ told_lines tells time path.now starts.now (stored_state core.now).replies core.now.effects) }
+    ensures { OnOk result (out.new.items ≡ out.old.items ++ told_lines scene.now.tells scene.now.time scene.now.path.now scene.now.starts.now (stored_state core.now).replies core.now.effects) }
 {
-    write_all(
-        time,
-        path,
-        tells,
-        starts,
-        core,
-        core.effects(),
-        printer,
-        out,
-    )
+    write_all(scene, core, core.effects(), printer, out)
 }

@@ -166,6 +166,11 @@ line_of_words words = do
   verb ← verb_of first.0
   line_with verb first.1
 
+-- what a line says that has no verb: nothing, where it is empty
+unfoldable pub line_without_verb : List ℕ → Option Line
+line_without_verb [] = Some line.Empty
+line_without_verb (_ ∷ _) = None
+
 -- the line that these bytes are, without their end of line
 unfoldable pub line_of : List ℕ → Option Line
 line_of [] = Some line.Empty

@@ -1,18 +1,15 @@
 //! Orders as lines.
 
-ghost use Rattle.std.specs.Prelude.{◌≡◌, ◌++◌, Option, Some, OnOk, OnErr, OnSome, option_copied};
+ghost use Rattle.std.specs.Prelude.{◌≡◌, ◌++◌, Option, OnOk, OnErr, OnSome, option_copied};
 ghost use Rattle.otp_rules.specs.declared.call.Reply.{Reply};
-ghost use Rattle.otp_rules.specs.declared.call.Reply.TheVariants as told;
-ghost use Rattle.otp_rules.specs.declared.event.Effect.TheVariants as order;
 ghost use Rattle.otp_text.specs.Effects.{order_line, reply_line, effect_line};
 ghost use Rattle.otp_text.specs.Values.{child_name_text};
 
-use crate::listed::Listed;
 use crate::reply::write_reply;
 use crate::short::ShortText;
 use crate::value::{write_byte, write_child_name, write_number, write_process, write_reason};
 use otp_reason::Name;
-use otp_rules::{ChildLine, Effect, Reply};
+use otp_rules::{Effect, Reply};
 use std::alloc::{AllocError, Global};
 
 /// Prints orders, each as one line.
@@ -20,8 +17,6 @@ use std::alloc::{AllocError, Global};
 pub struct Printer {
     // The line being made: it goes out whole or not at all.
     line: Vec<u8>,
-    // The list of children that was printed last.
-    listed: Listed,
 }
 
 impl Printer {
@@ -29,7 +24,6 @@ impl Printer {
     pub fn new(alloc: Global) -> Self {
         Printer {
             line: Vec::new(alloc),
-            listed: Listed::new(alloc),
         }
     }
 
@@ -53,33 +47,9 @@ impl Printer {
             return out.extend_from_slice(short.as_bytes());
         }
         self.line.clear();
-        match (effect, reply) {
-            (Effect::Reply(call), Some(Reply::Which(children))) => {
-                write_list(*call, children.as_slice(), &mut self.listed, &mut self.line)?;
-            }
-            _ => write_effect(effect, reply, &mut self.line)?,
-        }
+        write_effect(effect, reply, &mut self.line)?;
         out.extend_from_slice(self.line.as_slice())
     }
-}
-
-/// Appends the line of the answer to a call that lists children.
-#[tactic(auto, unfolding(crate::specs::Effects::effect_line, crate::specs::Effects::reply_line, crate::specs::Replies::reply_text, crate::specs::Replies::which_text))]
-fn write_list(
-    call: u64,
-    children: &[ChildLine],
-    listed: &mut Listed,
-    out: &mut Vec<u8>,
-) -> Result<(), AllocError>
-    ensures { OnOk result (out.new.items ≡ out.old.items ++ effect_line (order.Reply call) (Some (told.Which children.now))) }
-{
-    listed.take(children)?;
-    out.extend_from_slice(b"reply ")?;
-    write_number(call, out)?;
-    write_byte(b' ', out)?;
-    out.extend_from_slice(b"which")?;
-    out.extend_from_slice(listed.text())?;
-    write_byte(b'\n', out)
 }
 
 /// Adds the line of what is asked of a child. Other orders are longer, or are rare: they aren't added.

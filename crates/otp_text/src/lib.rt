@@ -6,7 +6,6 @@
 pub mod effect;
 pub mod laws;
 pub mod line;
-mod listed;
 mod reply;
 mod short;
 mod value;
@@ -14,6 +13,7 @@ mod verb;
 mod word;
 
 pub use effect::Printer;
-pub use line::{LONGEST_LINE, Line, read_line, read_note};
+pub use line::{LONGEST_LINE, Line, cut_verb, read_line, read_line_with, read_note_with};
 pub use value::{write_child_name, write_name, write_number, write_process, write_reason};
+pub use verb::Verb;
 pub use word::{read_name, read_number, read_reason};

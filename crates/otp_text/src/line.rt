@@ -1,11 +1,11 @@
 //! Lines as they are read.
 
-ghost use Rattle.std.specs.Prelude.{◌≡◌, ◌≤◌, IfSome, Some, option_copied};
+ghost use Rattle.std.specs.Prelude.{◌≡◌, ◌≤◌, IfSome, IfNone, Some, None, option_copied};
 ghost use Rattle.std.specs.Option.{option_map};
 ghost use Rattle.otp_spec.specs.declared.limits.TheConstants.{MAX_READING};
 ghost use Rattle.otp_text.specs.declared.line.Line.TheVariants as said;
 ghost use Rattle.otp_text.specs.Words.{words_of, words_left};
-ghost use Rattle.otp_text.specs.Lines.{number_in, one_number, one_name, number_and_reason, two_names, spec_named, spec_in, start_in, terminate_in, one_terminate, call_of, note_of, note_with, line_with, line_of_words, line_of, IsTimely};
+ghost use Rattle.otp_text.specs.Lines.{number_in, one_number, one_name, number_and_reason, two_names, spec_named, spec_in, start_in, terminate_in, one_terminate, call_of, note_of, note_with, line_with, line_of_words, line_of, line_without_verb, IsTimely};
 
 use crate::verb::Verb;
 use crate::word::{
@@ -34,59 +34,60 @@ pub enum Line {
 }
 
 /// The line that these bytes are, without their end of line; `None` for any other form and for more than 512 bytes.
-#[tactic(auto, unfolding(crate::specs::Lines::line_of))]
 pub fn read_line(line: &[u8]) -> Option<Line>
     ensures line { result ≡ line_of line.now }
     ensures time { IfSome result IsTimely }
 {
-    if line.is_empty() {
-        return Some(Line::Empty);
+    match cut_verb(line) {
+        Some((verb, rest)) => read_line_with(verb, rest),
+        None => read_without_verb(line),
     }
-    if line.len() > LONGEST_LINE {
-        return None;
-    }
-    read_words(line)
 }
 
-/// The line of these words.
-#[tactic(auto, unfolding(crate::specs::Lines::line_of_words))]
-fn read_words(line: &[u8]) -> Option<Line>
-    ensures line { result ≡ line_of_words (words_of line.now) }
-    ensures time { IfSome result IsTimely }
-{
-    let (word, rest) = cut(line);
-    let verb = Verb::of_word(word)?;
-    read_verb(verb, rest)
-}
-
-/// What a process tells by this line; `None` for any other line, and for one that has no form.
+/// A line's verb, and what stands after it. There is no verb where the line is empty, has more than 512 bytes, or begins with
+/// another word.
 ///
-/// It is what [`read_line`] says, in a value a third as large: most lines are notes.
-#[tactic(auto, unfolding(crate::specs::Lines::line_of))]
-pub fn read_note(line: &[u8]) -> Option<Note>
-    ensures note { result ≡ note_of (line_of line.now) }
-    ensures line { IfSome result (λ note. line_of line.now ≡ Some (said.Note note)) }
+/// What the line says is then read by [`read_line_with`], or by [`read_note_with`] where it may be a note.
+#[tactic(auto, unfolding(crate::specs::Lines::line_of, crate::specs::Lines::line_without_verb))]
+pub fn cut_verb(line: &[u8]) -> Option<(Verb, Option<&[u8]>)>
+    ensures verb { IfSome result (λ found. line_of line.now ≡ line_with found.0 (words_left (option_copied found.1))) }
+    ensures none { IfNone result (line_of line.now ≡ line_without_verb line.now) }
 {
     if line.is_empty() || line.len() > LONGEST_LINE {
         return None;
     }
-    read_note_words(line)
+    cut_words(line)
 }
 
-/// The note of these words.
+/// The verb of these words, and what stands after it.
 #[tactic(auto, unfolding(crate::specs::Lines::line_of_words))]
-fn read_note_words(line: &[u8]) -> Option<Note>
-    ensures note { result ≡ note_of (line_of_words (words_of line.now)) }
-    ensures line { IfSome result (λ note. line_of_words (words_of line.now) ≡ Some (said.Note note)) }
+fn cut_words(line: &[u8]) -> Option<(Verb, Option<&[u8]>)>
+    ensures verb { IfSome result (λ found. line_of_words (words_of line.now) ≡ line_with found.0 (words_left (option_copied found.1))) }
+    ensures none { IfNone result (line_of_words (words_of line.now) ≡ None) }
 {
     let (word, rest) = cut(line);
     let verb = Verb::of_word(word)?;
-    read_note_with(verb, rest)
+    Some((verb, rest))
 }
 
-/// The note of a verb and the words after it.
+/// What a line says that has no verb: nothing where it is empty.
+#[tactic(auto, unfolding(crate::specs::Lines::line_without_verb))]
+fn read_without_verb(line: &[u8]) -> Option<Line>
+    ensures line { result ≡ line_without_verb line.now }
+    ensures time { IfSome result IsTimely }
+{
+    if line.is_empty() {
+        Some(Line::Empty)
+    } else {
+        None
+    }
+}
+
+/// The note of a verb and the words after it; `None` for any other line, and for one that has no form.
+///
+/// It is what [`read_line_with`] says, in a value a third as large: most lines are notes.
 #[tactic(auto, unfolding(crate::specs::Lines::line_with, crate::specs::Lines::note_with))]
-fn read_note_with(verb: Verb, rest: Option<&[u8]>) -> Option<Note>
+pub fn read_note_with(verb: Verb, rest: Option<&[u8]>) -> Option<Note>
     ensures with { result ≡ note_with verb (words_left (option_copied rest.entry)) }
     ensures note { result ≡ note_of (line_with verb (words_left (option_copied rest.entry))) }
     ensures line { IfSome result (λ note. line_with verb (words_left (option_copied rest.entry)) ≡ Some (said.Note note)) }
@@ -108,7 +109,7 @@ fn read_note_with(verb: Verb, rest: Option<&[u8]>) -> Option<Note>
 
 /// The line of a verb and the words after it.
 #[tactic(auto, unfolding(crate::specs::Lines::line_with, crate::specs::Lines::note_with))]
-fn read_verb(verb: Verb, rest: Option<&[u8]>) -> Option<Line>
+pub fn read_line_with(verb: Verb, rest: Option<&[u8]>) -> Option<Line>
     ensures line { result ≡ line_with verb (words_left (option_copied rest.entry)) }
     ensures time { IfSome result IsTimely }
 {

@@ -1,16 +1,19 @@
 //! Replies as they are printed.
 
-ghost use Rattle.std.specs.Prelude.{◌≡◌, ◌++◌, OnOk};
+ghost use Rattle.std.specs.Prelude.{◌≡◌, ◌++◌, OnOk, OnSome, option_copied, unwrap_or, []};
 ghost use Rattle.std.specs.List.{flat_map};
+ghost use Rattle.otp_reason.specs.Names.{name_bytes};
+ghost use Rattle.otp_text.specs.Values.{modules_text};
 ghost use Rattle.otp_text.specs.Replies.{fault_text, id_text, child_process_text, child_text, which_text, count_text, counts_text, spec_names_text, spec_restart_text, spec_shutdown_text, spec_text, reply_text};
 
+use crate::short::ShortText;
 use crate::value::{
     write_bool, write_byte, write_modules, write_name, write_number, write_process, write_reason,
     write_shutdown,
 };
 use otp_reason::Name;
 use otp_rules::{CallFault, ChildLine, ChildProcess, CountsNow, Reply};
-use otp_spec::ChildSpec;
+use otp_spec::{ChildSpec, Modules};
 use std::alloc::AllocError;
 
 /// Appends the answer to a call.
@@ -74,7 +77,7 @@ fn write_which(children: &[ChildLine], out: &mut Vec<u8>) -> Result<(), AllocErr
 }
 
 /// Appends each child of which_children.
-pub(crate) fn write_children(children: &[ChildLine], out: &mut Vec<u8>) -> Result<(), AllocError>
+fn write_children(children: &[ChildLine], out: &mut Vec<u8>) -> Result<(), AllocError>
     ensures { OnOk result (out.new.items ≡ out.old.items ++ flat_map child_text children.now) }
 {
     for child in children {
@@ -83,9 +86,78 @@ pub(crate) fn write_children(children: &[ChildLine], out: &mut Vec<u8>) -> Resul
     Ok(())
 }
 
-/// Appends a space and a child of which_children: id, process, type and modules.
-#[tactic(auto, unfolding(crate::specs::Replies::child_text))]
+/// Appends a space and a child of which_children: id, process, type and modules. Most are short, and go out at once.
 fn write_child(child: &ChildLine, out: &mut Vec<u8>) -> Result<(), AllocError>
+    ensures { OnOk result (out.new.items ≡ out.old.items ++ child_text child.now) }
+{
+    let mut short = ShortText::new();
+    match add_child(child, &mut short) {
+        Some(()) => out.extend_from_slice(short.as_bytes()),
+        None => write_long_child(child, out),
+    }
+}
+
+/// Adds a space and a child of which_children.
+#[tactic(auto, unfolding(crate::specs::Replies::child_text))]
+fn add_child(child: &ChildLine, text: &mut ShortText) -> Option<()>
+    ensures { OnSome result (text.new ≡ text.old ++ child_text child.now) }
+{
+    text.add(b" ")?;
+    add_id(&child.id, text)?;
+    text.add(b",")?;
+    add_child_process(child.process, text)?;
+    text.add(b",")?;
+    text.add(child.kind.word().as_bytes())?;
+    text.add(b",")?;
+    add_modules(&child.modules, text)
+}
+
+/// Adds a child's id, or `undefined` for a dynamic child.
+#[tactic(auto, unfolding(crate::specs::Replies::id_text))]
+fn add_id(id: &Option<Name>, text: &mut ShortText) -> Option<()>
+    ensures { OnSome result (text.new ≡ text.old ++ id_text id.now) }
+{
+    match id {
+        None => text.add(b"undefined"),
+        Some(id) => text.add(id.as_bytes()),
+    }
+}
+
+/// Adds what which_children says of a child's process.
+#[tactic(auto, unfolding(crate::specs::Replies::child_process_text))]
+fn add_child_process(process: ChildProcess, text: &mut ShortText) -> Option<()>
+    ensures { OnSome result (text.new ≡ text.old ++ child_process_text process) }
+{
+    match process {
+        ChildProcess::Number(number) => text.add_process(number),
+        ChildProcess::Restarting => text.add(b"restarting"),
+        ChildProcess::Undefined => text.add(b"undefined"),
+    }
+}
+
+/// Adds the name of one module, or what stands where no module is named. More names aren't added.
+#[tactic(auto, unfolding(crate::specs::Values::modules_text))]
+fn add_modules(modules: &Modules, text: &mut ShortText) -> Option<()>
+    ensures { OnSome result (text.new ≡ text.old ++ modules_text modules.now) }
+{
+    match modules {
+        Modules::Dynamic => add_word(modules.word(), text),
+        Modules::None => text.add(b"-"),
+        Modules::One(first) => text.add(first.as_bytes()),
+        Modules::Two(_, _) | Modules::Three(_, _, _) | Modules::Four(_, _, _, _) => None,
+    }
+}
+
+/// Adds a word, if there is one.
+fn add_word(word: Option<&str>, text: &mut ShortText) -> Option<()>
+    ensures { OnSome result (text.new ≡ text.old ++ unwrap_or (option_copied word.entry) []) }
+{
+    text.add(word?.as_bytes())
+}
+
+/// Appends a space and a child of which_children, word by word.
+#[tactic(auto, unfolding(crate::specs::Replies::child_text))]
+fn write_long_child(child: &ChildLine, out: &mut Vec<u8>) -> Result<(), AllocError>
     ensures { OnOk result (out.new.items ≡ out.old.items ++ child_text child.now) }
 {
     write_byte(b' ', out)?;

@@ -20,7 +20,7 @@ use otp_spec::{MAX_READING, SupFlags, SupSpec};
 use otp_table::{Row, RowState};
 use otp_telling::starts::{Started, has_start, put_starts, starts_of};
 use otp_telling::strain::Strain;
-use otp_telling::telling::tell;
+use otp_telling::telling::{Scene, tell};
 use otp_text::Printer;
 use otp_world::finding::state_for;
 use std::alloc::Global;
@@ -143,15 +143,13 @@ impl Seat {
         self.is_whole = false;
         self.core.step_with(time, &kind, &mut numbers);
         let starts = self.starts.as_slice();
-        tell(
+        let scene = Scene {
             time,
-            self.path.as_slice(),
-            self.tells,
+            path: self.path.as_slice(),
             starts,
-            &self.core,
-            printer,
-            out,
-        )?;
+            tells: self.tells,
+        };
+        tell(&scene, &self.core, printer, out)?;
         put_starts(self.core.effects(), &mut self.starts)?;
         self.strain = strain_after(self.strain, time, self.supervisor.flags(), &self.core);
         self.is_whole = true;

@@ -92,6 +92,16 @@ Ended (ExpectationFailed _) old page before now = Concluded old page before now
 Ended OutputFailed old page before now = WrotePart old page before now
 Ended _ old page before now = (stood : List Seated) × Wrote old stood page [] before now
 
+-- where all of a run was played, this text of it is left and so much was written, it ended so
+abbrev pub Concludes : TryEnd → List Seated → List ℕ → Option (List ℕ) → Option (List ℕ) → Type 0
+Concludes end trial text between now =
+    (seats : List Seated) (page : List ℕ) (before : Option (List ℕ)) → Wrote seats trial page text before between → Ended end seats page before now
+
+-- the same of a run that stopped early
+abbrev pub Closes : EarlyEnd → TryEnd → List ℕ → Option (List ℕ) → Option (List ℕ) → Type 0
+Closes why end text between now =
+    (seats : List Seated) (page : List ℕ) (before : Option (List ℕ)) → StopsSo why seats page text before between → Ended end seats page before now
+
 -- whether all orders are told: where a script is drawn, or little is to be told, the ends of supervisors alone are
 abbrev pub tells_orders : Writer → Shows → Bool
 tells_orders writer.Person _ = true

@@ -1,7 +1,7 @@
 //! The end of a run: how the supervisors stand, what was planned and never came, the verdict; or what was told before it went wrong.
 
-ghost use Rattle.std.specs.Prelude.{ℕ, List, Option};
-ghost use Rattle.otp_try.specs.Pages.{Ended, StopsSo, SumsUp, WritesOut, Wrote};
+ghost use Rattle.std.specs.Prelude.{List};
+ghost use Rattle.otp_try.specs.Pages.{Closes, Concludes, Ended, SumsUp, WritesOut};
 ghost use Rattle.otp_trial.specs.Played.{Seated};
 
 use crate::early::EarlyEnd;
@@ -20,7 +20,7 @@ impl Play {
         input: &mut R,
         output: &mut W,
     ) -> TryEnd
-        ensures { Ended result self.old.trial self.old.page.items (W.contents output.old) (W.contents output.new) }
+        ensures { Ended result self.old.trial self.old.page.items (W.seen output.old).bytes (W.seen output.new).bytes }
     {
         match self.run(settings, input, output) {
             Ok(()) => self.conclude(settings, output),
@@ -30,7 +30,7 @@ impl Play {
 
     /// The end of a run of which all lines were played: it is told how the supervisors stand, and what they await.
     fn conclude<W: Output>(&mut self, settings: Settings, output: &mut W) -> TryEnd
-        ensures { (seats : List Seated) (page : List ℕ) (before : Option (List ℕ)) → Wrote seats self.old.trial page self.old.page.items before (W.contents output.old) → Ended result seats page before (W.contents output.new) }
+        ensures { Concludes result self.old.trial self.old.page.items (W.seen output.old).bytes (W.seen output.new).bytes }
     {
         match self.sum_up(settings) {
             Ok(()) => self.write_out(output),
@@ -40,7 +40,7 @@ impl Play {
 
     /// The last of a run that was played to its end is written.
     fn write_out<W: Output>(&self, output: &mut W) -> TryEnd
-        ensures { WritesOut result self.now.page.items (W.contents output.old) (W.contents output.new) }
+        ensures { WritesOut result self.now.page.items (W.seen output.old).bytes (W.seen output.new).bytes }
     {
         match write_all(output, self.page.as_slice()) {
             Ok(()) => match self.failed {
@@ -87,7 +87,7 @@ impl Play {
 
     /// The end of a run that ended early: where the writer failed, nothing more is written.
     fn close_early<W: Output>(&mut self, end: EarlyEnd, output: &mut W) -> TryEnd
-        ensures { (seats : List Seated) (page : List ℕ) (before : Option (List ℕ)) → StopsSo end seats page self.old.page.items before (W.contents output.old) → Ended result seats page before (W.contents output.new) }
+        ensures { Closes end result self.old.page.items (W.seen output.old).bytes (W.seen output.new).bytes }
     {
         match end {
             EarlyEnd::OutputFailed => TryEnd::OutputFailed,
@@ -97,7 +97,7 @@ impl Play {
 
     /// The end of a run that ended early: what is not drawn is drawn where there is memory, and all that is told is written.
     fn write_last<W: Output>(&mut self, end: EarlyEnd, output: &mut W) -> TryEnd
-        ensures { (seats : List Seated) → Ended result seats self.old.page.items (W.contents output.old) (W.contents output.new) }
+        ensures { (seats : List Seated) → Ended result seats self.old.page.items (W.seen output.old).bytes (W.seen output.new).bytes }
     {
         let _drawn = self.draw();
         let Ok(()) = self.hand_out(output) else {

@@ -51,7 +51,7 @@ impl Play {
         input: &mut R,
         output: &mut W,
     ) -> Result<(), EarlyEnd>
-        ensures { Ran result self.old.trial self.new.trial self.old.page.items self.new.page.items (W.contents output.old) (W.contents output.new) }
+        ensures { Ran result self.old.trial self.new.trial self.old.page.items self.new.page.items (W.seen output.old).bytes (W.seen output.new).bytes }
     {
         match self.begin(settings) {
             Ok(()) => self.open_input(settings, input, output),
@@ -66,7 +66,7 @@ impl Play {
         input: &mut R,
         output: &mut W,
     ) -> Result<(), EarlyEnd>
-        ensures { Ran result self.old.trial self.new.trial self.old.page.items self.new.page.items (W.contents output.old) (W.contents output.new) }
+        ensures { Ran result self.old.trial self.new.trial self.old.page.items self.new.page.items (W.seen output.old).bytes (W.seen output.new).bytes }
     {
         let Ok(mut buffer) = zeros(self.alloc, PIECE) else {
             return Err(EarlyEnd::OutOfMemory);
@@ -83,7 +83,7 @@ impl Play {
         output: &mut W,
     ) -> Result<(), EarlyEnd>
         requires { PIECE ≤ length buffer.old }
-        ensures { Ran result self.old.trial self.new.trial self.old.page.items self.new.page.items (W.contents output.old) (W.contents output.new) }
+        ensures { Ran result self.old.trial self.new.trial self.old.page.items self.new.page.items (W.seen output.old).bytes (W.seen output.new).bytes }
     {
         let mut kept = Vec::new(self.alloc);
         for _ in 0..u64::MAX {
@@ -107,7 +107,7 @@ impl Play {
         output: &mut W,
     ) -> Result<bool, EarlyEnd>
         requires { PIECE ≤ length buffer.old }
-        ensures ran { Ran result self.old.trial self.new.trial self.old.page.items self.new.page.items (W.contents output.old) (W.contents output.new) }
+        ensures ran { Ran result self.old.trial self.new.trial self.old.page.items self.new.page.items (W.seen output.old).bytes (W.seen output.new).bytes }
         ensures size { length buffer.new ≡ length buffer.old }
     {
         let is_fresh = kept.is_empty();
@@ -127,7 +127,7 @@ impl Play {
         output: &mut W,
     ) -> Result<bool, EarlyEnd>
         requires { PIECE ≤ length buffer.old }
-        ensures ran { Ran result self.old.trial self.new.trial self.old.page.items self.new.page.items (W.contents output.old) (W.contents output.new) }
+        ensures ran { Ran result self.old.trial self.new.trial self.old.page.items self.new.page.items (W.seen output.old).bytes (W.seen output.new).bytes }
         ensures size { length buffer.new ≡ length buffer.old }
     {
         let Ok(count) = input.read(buffer) else {
@@ -149,7 +149,7 @@ impl Play {
         is_fresh: bool,
         output: &mut W,
     ) -> Result<(), EarlyEnd>
-        ensures { Ran result self.old.trial self.new.trial self.old.page.items self.new.page.items (W.contents output.old) (W.contents output.new) }
+        ensures { Ran result self.old.trial self.new.trial self.old.page.items self.new.page.items (W.seen output.old).bytes (W.seen output.new).bytes }
     {
         match self.prompt(settings, is_fresh) {
             Ok(()) => self.hand_out(output),
@@ -165,7 +165,7 @@ impl Play {
         piece: &[u8],
         output: &mut W,
     ) -> Result<(), EarlyEnd>
-        ensures { Ran result self.old.trial self.new.trial self.old.page.items self.new.page.items (W.contents output.old) (W.contents output.new) }
+        ensures { Ran result self.old.trial self.new.trial self.old.page.items self.new.page.items (W.seen output.old).bytes (W.seen output.new).bytes }
     {
         for byte in piece {
             if let Err(end) = self.take_byte(settings, kept, *byte, output) {
@@ -183,7 +183,7 @@ impl Play {
         byte: u8,
         output: &mut W,
     ) -> Result<(), EarlyEnd>
-        ensures { Ran result self.old.trial self.new.trial self.old.page.items self.new.page.items (W.contents output.old) (W.contents output.new) }
+        ensures { Ran result self.old.trial self.new.trial self.old.page.items self.new.page.items (W.seen output.old).bytes (W.seen output.new).bytes }
     {
         if byte != b'\n' {
             return keep(kept, byte);
@@ -209,7 +209,7 @@ impl Play {
 
     /// What is on the page is written, and gone from it.
     pub(crate) fn hand_out<W: Output>(&mut self, output: &mut W) -> Result<(), EarlyEnd>
-        ensures ran { (seats : List Seated) → Ran result seats seats self.old.page.items self.new.page.items (W.contents output.old) (W.contents output.new) }
+        ensures ran { (seats : List Seated) → Ran result seats seats self.old.page.items self.new.page.items (W.seen output.old).bytes (W.seen output.new).bytes }
         ensures empty { OnOk result (self.new.page.items ≡ []) }
         ensures same { self.new.trial ≡ self.old.trial }
     {
@@ -222,7 +222,7 @@ impl Play {
 
     /// What is on the page is written, if it is much.
     fn hand_out_much<W: Output>(&mut self, output: &mut W) -> Result<(), EarlyEnd>
-        ensures ran { (seats : List Seated) → Ran result seats seats self.old.page.items self.new.page.items (W.contents output.old) (W.contents output.new) }
+        ensures ran { (seats : List Seated) → Ran result seats seats self.old.page.items self.new.page.items (W.seen output.old).bytes (W.seen output.new).bytes }
         ensures same { self.new.trial ≡ self.old.trial }
     {
         if self.page.len() < PIECE {

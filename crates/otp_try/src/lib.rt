@@ -20,4 +20,4 @@ pub use otp_script::{
 };
 pub use otp_trial::{ActionEnd, Clock, Halt, Seat, Started, Strain, Trial, plant_seats};
 pub use play::{TryEnd, Writer, try_tree};
-pub use settings::Shows;
+pub use settings::{Playing, Shows};

@@ -10,12 +10,12 @@ use crate::early::EarlyEnd;
 use crate::line::LineEnd;
 use crate::person::Kept;
 use crate::remark::Topic;
-use crate::settings::{Settings, Shows, is_quiet, sketch_of, tells_orders};
+use crate::settings::{Playing, Settings, is_quiet, sketch_of, tells_orders};
 use otp_file::TreeSpec;
 use otp_remarks::{Sketch, moment_at};
 use otp_script::ScriptFault;
 use otp_sim::{Input, Output};
-use otp_trial::{ActionEnd, Clock, Seat, Trial};
+use otp_trial::{ActionEnd, Seat, Trial};
 use std::alloc::{AllocError, Global};
 
 /// How a script ended.
@@ -198,14 +198,17 @@ fn picture_of(alloc: Global, sketch: &Sketch, seats: &[Seat]) -> Result<Vec<u8>,
 pub fn try_tree<R: Input, W: Output>(
     alloc: Global,
     tree: TreeSpec,
-    writer: Writer,
-    shows: Shows,
-    clock: Clock,
+    playing: Playing,
     input: &mut R,
     output: &mut W,
 ) -> TryEnd
-    ensures { Tries result tree (tells_orders writer shows) (W.contents output.old) (W.contents output.new) }
+    ensures { Tries result tree (tells_orders playing.writer playing.shows) (W.seen output.old).bytes (W.seen output.new).bytes }
 {
+    let Playing {
+        writer,
+        shows,
+        clock,
+    } = playing;
     let settings = Settings {
         writer,
         tells: tells_orders(writer, shows),

@@ -5,6 +5,7 @@ ghost use Rattle.otp_try.specs.Pages.{tells_orders};
 
 use crate::play::Writer;
 use otp_remarks::Sketch;
+use otp_trial::Clock;
 use std::alloc::Global;
 
 /// What of a run is written.
@@ -21,6 +22,14 @@ pub enum Shows {
         /// So many columns a line may have; a column of the picture stands there at the least.
         width: u32,
     },
+}
+
+/// How a script is played: who writes its lines, what of the run is written, and by which clock.
+#[derive(Clone, Copy, Debug, PartialEq, Eq)]
+pub struct Playing {
+    pub writer: Writer,
+    pub shows: Shows,
+    pub clock: Clock,
 }
 
 /// How a run is told.

@@ -5,6 +5,6 @@ use Rattle.otp_console.proofs.program.check_all.Given as goal
 
 abbrev pub invariant-loop-name : goal.invariant-loop-name
 invariant-loop-name g l =
-    ChecksEach l.checking.has_starts (λ name. g.F.TreeFiles.holds l.files name.now) (take l.name-index l.names) Done l.ending
-    (record { bytes = g.W.Output.contents l.fn.output; failures = g.W.Output.failures l.fn.output })
-    (record { bytes = g.W.Output.contents l.output; failures = g.W.Output.failures l.output })
+    ChecksEach l.checking.has_starts (λ name. (g.F.TreeFiles.known l.files).holds name.now) (take l.name-index l.names) Done l.ending
+    (g.W.Output.seen l.fn.output)
+    (g.W.Output.seen l.output)

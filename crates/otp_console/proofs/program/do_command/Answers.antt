@@ -1,5 +1,5 @@
 use Rattle.std.proofs.Common.{ℕ, List, [], Bor, inr, refl, subst, sym}
-use Rattle.otp_sim.specs.Runs.{Devices}
+use Rattle.otp_sim.specs.Devices.{Devices, devices}
 use Rattle.otp_console.specs.Runs.{ChecksAll, Does}
 use Rattle.otp_words.specs.declared.words.Command.{Command}
 use Rattle.otp_console.proofs.Untold.{appends_nothing}
@@ -7,24 +7,14 @@ use Rattle.otp_console.proofs.program.do_command.Goals as goal
 
 pub returns-in-Check-clause-done : goal.returns-in-Check-clause-done
 returns-in-Check-clause-done g c =
-    let old : Devices = record {
-      left = g.R.Input.remaining c.args.input.now;
-      written = g.W.Output.contents c.args.output.now;
-      read_failures = g.R.Input.failures c.args.input.now;
-      write_failures = g.W.Output.failures c.args.output.now;
-    } in
-    let new : Devices = record {
-      left = g.R.Input.remaining c.args.input.now;
-      written = g.W.Output.contents c.check_all.new.output;
-      read_failures = g.R.Input.failures c.args.input.now;
-      write_failures = g.W.Output.failures c.check_all.new.output;
-    } in
-    subst (λ (command : Command). Does (g.F.TreeFiles.holds c.args.files.now) (g.F.TreeFiles.keeps c.args.files.now) command c.check_all.result old new) (sym c.in-Check.is) (
-      record { left = refl; failures = refl },
-      subst (λ (names : List (Bor (List ℕ))). ChecksAll c.in-Check.checking.has_starts (λ (name : Bor (List ℕ)). g.F.TreeFiles.holds c.args.files.now name.now) names c.check_all.result
-          (record { bytes = old.written; failures = old.write_failures }) (record { bytes = new.written; failures = new.write_failures }))
+    let old : Devices = devices (g.R.Input.seen c.args.input.now) (g.W.Output.seen c.args.output.now) in
+    let new : Devices = devices (g.R.Input.seen c.args.input.now) (g.W.Output.seen c.check_all.new.output) in
+    subst (λ (command : Command). Does (g.F.TreeFiles.known c.args.files.now) command c.check_all.result old new) (sym c.in-Check.is) (
+      refl,
+      subst (λ (names : List (Bor (List ℕ))). ChecksAll c.in-Check.checking.has_starts (λ (name : Bor (List ℕ)). (g.F.TreeFiles.known c.args.files.now).holds name.now) names c.check_all.result
+          old.output new.output)
           c.as_slice.ensures.value c.check_all.ensures,
     )
 
 pub returns-in-Check-clause-first : goal.returns-in-Check-clause-first
-returns-in-Check-clause-first g c = ([], (λ unasked. refl, inr (appends_nothing (g.E.Output.contents c.args.errors.now))))
+returns-in-Check-clause-first g c = ([], (λ unasked. refl, inr (appends_nothing (g.E.Output.seen c.args.errors.now).bytes)))

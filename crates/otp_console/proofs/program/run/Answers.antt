@@ -9,5 +9,5 @@ returns g c =
       why = c.unwritten.result;
       status_is = c.tell.ensures.status;
       done = obeyed.done;
-      told = told_last obeyed.drawn c.unwritten.result c.obey-ending.result _ _ _ _ _ _ c.obey-ending.ensures.kept c.tell.ensures.kept obeyed.first c.tell.ensures.told;
+      told = told_last obeyed.drawn c.unwritten.result c.obey-ending.result _ _ _ c.obey-ending.ensures.kept c.tell.ensures.kept obeyed.first c.tell.ensures.told;
     }

@@ -16,7 +16,7 @@ returns-in-Ok-write_all g c =
     let tells = subst (λ (name : List ℕ). TellsRun name account text) c.as_bytes.ensures.value told.1.0 in
     let all = c.as_slice.ensures.value ∙ told.1.1 ∙ ap (λ (before : List ℕ). before ++ text) c.new-text.ensures.items in
     let written =
-    subst (λ (bytes : List ℕ). Appends (g.W.Output.contents c.args.output.now) (g.W.Output.contents c.write_all.new.output) bytes) all
+    subst (λ (bytes : List ℕ). Appends (g.W.Output.seen c.args.output.now).bytes (g.W.Output.seen c.write_all.new.output).bytes bytes) all
     (c.in-Ok-write_all.ensures {u = tt}).ok
     in
     inl (text, ((account, (run, tells)), written))

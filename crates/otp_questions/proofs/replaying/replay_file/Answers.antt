@@ -1,5 +1,5 @@
 use Rattle.std.proofs.Common.{sym, subst}
-use Rattle.otp_ending.specs.Devices.{Written}
+use Rattle.otp_sim.specs.Devices.{Written}
 use Rattle.otp_ending.specs.declared.ending.ProgramEnd.{ProgramEnd}
 use Rattle.otp_replay.specs.Told.{Replays}
 use Rattle.otp_replay.specs.declared.played.ReplayEnd.{ReplayEnd}
@@ -11,11 +11,11 @@ use Rattle.otp_questions.proofs.replaying.replay_file.Goals as goal
 
 pub returns-in-Tried : goal.returns-in-Tried
 returns-in-Tried g c =
-    let old : Written = record { bytes = g.W.Output.contents c.args.output.now; failures = g.W.Output.failures c.args.output.now } in
-    let new : Written = record { bytes = g.W.Output.contents c.replay.new.output; failures = g.W.Output.failures c.replay.new.output } in
-    let tells = tells_orders Script c.args.shows in
+    let old : Written = g.W.Output.seen c.args.output.now in
+    let new : Written = g.W.Output.seen c.replay.new.output in
+    let tells = tells_orders Script c.args.replaying.shows in
     let replayed =
-    subst (λ (end : ReplayEnd). Replays end c.in-Ok.tree c.args.text.now tells c.args.is_listed old.bytes new.bytes) c.in-Tried.is c.replay.ensures in
-    subst (λ (e : ProgramEnd). IsReplay c.args.log c.args.text.now c.args.is_listed c.args.name.now e c.args.file.now old new) (sym c.end_of_try.ensures)
-    (is_replay c.args.log c.args.text.now c.args.is_listed c.args.name.now c.args.file.now old new c.in-Tried.end
+    subst (λ (end : ReplayEnd). Replays end c.in-Ok.tree c.args.log.text.now tells c.args.replaying.is_listed old.bytes new.bytes) c.in-Tried.is c.replay.ensures in
+    subst (λ (e : ProgramEnd). IsReplay c.args.log.name c.args.log.text.now c.args.replaying.is_listed c.args.name.now e c.args.file.now old new) (sym c.end_of_try.ensures)
+    (is_replay c.args.log.name c.args.log.text.now c.args.replaying.is_listed c.args.name.now c.args.file.now old new c.in-Tried.end
     (c.in-Ok.tree, ((c.in-Ok.ensures {u = tt}).tree, (tells, replayed))))

@@ -1,5 +1,5 @@
 use Rattle.std.proofs.Common.{sym, subst}
-use Rattle.otp_sim.specs.Runs.{Devices}
+use Rattle.otp_sim.specs.Devices.{Devices, devices}
 use Rattle.otp_try.specs.Pages.{tells_orders}
 use Rattle.otp_questions.specs.Tried.{IsTrial}
 use Rattle.otp_ending.specs.declared.ending.ProgramEnd.{ProgramEnd}
@@ -8,18 +8,8 @@ use Rattle.otp_questions.proofs.trying.try_file.Goals as goal
 
 pub returns : goal.returns
 returns g c =
-    let old : Devices = record {
-      left = g.R.Input.remaining c.args.script.now;
-      written = g.W.Output.contents c.args.output.now;
-      read_failures = g.R.Input.failures c.args.script.now;
-      write_failures = g.W.Output.failures c.args.output.now;
-    } in
-    let new : Devices = record {
-      left = g.R.Input.remaining c.try_tree.new.input;
-      written = g.W.Output.contents c.try_tree.new.output;
-      read_failures = g.R.Input.failures c.try_tree.new.input;
-      write_failures = g.W.Output.failures c.try_tree.new.output;
-    } in
+    let old : Devices = devices (g.R.Input.seen c.args.script.now) (g.W.Output.seen c.args.output.now) in
+    let new : Devices = devices (g.R.Input.seen c.try_tree.new.input) (g.W.Output.seen c.try_tree.new.output) in
     subst (λ (e : ProgramEnd). IsTrial c.args.name.now e c.args.file.now old new) (sym c.end_of_try.ensures)
     (is_trial c.args.name.now c.args.file.now old new c.try_tree.result
-    (c.in-Ok.tree, ((c.in-Ok.ensures {u = tt}).tree, (tells_orders c.args.writer c.args.shows, c.try_tree.ensures))))
+    (c.in-Ok.tree, ((c.in-Ok.ensures {u = tt}).tree, (tells_orders c.args.playing.writer c.args.playing.shows, c.try_tree.ensures))))

@@ -8,20 +8,20 @@ use Rattle.otp_running.proofs.running.run_file.Goals as goal
 
 pub returns-in-Ok-write_all-clause-done : goal.returns-in-Ok-write_all-clause-done
 returns-in-Ok-write_all-clause-done g c =
-    let plain : c.run_worked.new.out.items ≡ run_text c.args.settings.counted c.in-Ok-run_worked.whole =
-    (c.in-Ok-run_worked.ensures {u = tt}).report ∙ ap (λ (l : List ℕ). l ++ run_text c.args.settings.counted c.in-Ok-run_worked.whole) c.new-report.ensures.items in
-    run_done c.args.shows.is_json c.args.name.now c.args.settings.counted c.args.file.now _ _ _ c.in-Ok.tree c.in-Ok-run_worked.whole
+    let plain : c.run_worked.new.out.items ≡ run_text c.args.how.settings.counted c.in-Ok-run_worked.whole =
+    (c.in-Ok-run_worked.ensures {u = tt}).report ∙ ap (λ (l : List ℕ). l ++ run_text c.args.how.settings.counted c.in-Ok-run_worked.whole) c.new-report.ensures.items in
+    run_done c.args.how.shows.is_json c.args.name.now c.args.how.settings.counted c.args.file.now _ _ _ c.in-Ok.tree c.in-Ok-run_worked.whole
     (c.in-Ok.ensures {u = tt}).tree
     (c.in-Ok-run_worked.ensures {u = tt}).runnable (
       (c.in-Ok-run_worked.ensures {u = tt}).run,
       (
         c.in-Ok-say.text.items,
         (
-          subst (λ (l : List ℕ). IsSaid c.args.shows.is_json c.args.name.now c.args.file.now c.in-Ok-run_worked.whole.report.tables.items c.in-Ok-run_worked.whole.report.live l c.in-Ok-say.text.items)
+          subst (λ (l : List ℕ). IsSaid c.args.how.shows.is_json c.args.name.now c.args.file.now c.in-Ok-run_worked.whole.report.tables.items c.in-Ok-run_worked.whole.report.live l c.in-Ok-say.text.items)
               plain
-              (subst (λ (tables : List TableReport). IsSaid c.args.shows.is_json c.args.name.now c.args.file.now tables c.in-Ok-run_worked.whole.report.live c.run_worked.new.out.items c.in-Ok-say.text.items)
+              (subst (λ (tables : List TableReport). IsSaid c.args.how.shows.is_json c.args.name.now c.args.file.now tables c.in-Ok-run_worked.whole.report.live c.run_worked.new.out.items c.in-Ok-say.text.items)
               c.as_slice-tables.ensures.value (c.in-Ok-say.ensures {u = tt})),
-          subst (λ (l : List ℕ). Appends (g.W.Output.contents c.args.output.now) (g.W.Output.contents c.write_all.new.output) l)
+          subst (λ (l : List ℕ). Appends (g.W.Output.seen c.args.output.now).bytes (g.W.Output.seen c.write_all.new.output).bytes l)
               c.as_slice.ensures.value (c.in-Ok-write_all.ensures {u = tt}).ok,
         ),
       ),

@@ -1,6 +1,7 @@
 use Rattle.std.proofs.Common.{ap, ◌∙◌}
 use Rattle.otp_sim.specs.Sim.{Sim, opened}
-use Rattle.otp_sim.specs.Runs.{Devices, with_text}
+use Rattle.otp_sim.specs.Devices.{devices}
+use Rattle.otp_sim.specs.Runs.{with_text}
 use Rattle.otp_sim.proofs.Exits.{opened_lines, nothing_written, writes_from}
 use Rattle.otp_sim.proofs.engine.sim.Goals as goal
 
@@ -10,13 +11,7 @@ serve-requires g c =
 
 pub returns-in_default : goal.returns-in_default
 returns-in_default g c =
-    let devices : Devices = record {
-      left = g.R.Input.remaining c.args.input.now;
-      written = g.W.Output.contents c.args.output.now;
-      read_failures = g.R.Input.failures c.args.input.now;
-      write_failures = g.W.Output.failures c.args.output.now;
-    } in
-    nothing_written (opened c.args.supervisor.flags c.args.supervisor.specs) devices
+    nothing_written (opened c.args.supervisor.flags c.args.supervisor.specs) (devices (g.R.Input.seen c.args.input.now) (g.W.Output.seen c.args.output.now))
 
 pub returns : goal.returns
 returns g c =

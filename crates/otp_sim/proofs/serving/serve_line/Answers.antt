@@ -9,14 +9,13 @@ use Rattle.otp_sim.proofs.serving.serve_line.Goals as goal
 pub returns-in_default-clause-err : goal.returns-in_default-clause-err
 returns-in_default-clause-err g c =
     let same : c.begin_line.new.out.items ≡ c.args.ready.now.items = c.in_default.ensures.err in
-    line_flushed c.out_of_memory.result c.args.line.now (with_text c.args.ready.now.items (g.S.Driven.sim c.args.driven.now)) _ _ _ _
-    (subst (λ (bytes : List ℕ). Flushes c.out_of_memory.result (g.W.Output.contents c.args.output.now) (g.W.Output.contents c.out_of_memory.new.output) bytes
-    (g.W.Output.failures c.args.output.now) (g.W.Output.failures c.out_of_memory.new.output)) same c.out_of_memory.ensures.end)
+    line_flushed c.out_of_memory.result c.args.line.now (with_text c.args.ready.now.items (g.S.Driven.sim c.args.driven.now)) _ _
+    (subst (λ (bytes : List ℕ). Flushes c.out_of_memory.result (g.W.Output.seen c.args.output.now) (g.W.Output.seen c.out_of_memory.new.output) bytes) same c.out_of_memory.ensures.end)
 
 pub loop-is_going-init : goal.loop-is_going-init
 loop-is_going-init g c = record {
   playing = playing_begun (with_text c.args.ready.now.items (g.S.Driven.sim c.args.driven.now)) (g.S.Driven.sim c.begin_line.new.self)
-      c.args.line.now (g.W.Output.contents c.args.output.now) c.begin_line.new.out.items (c.in-Ok.ensures {u = tt}).ok;
+      c.args.line.now (g.W.Output.seen c.args.output.now).bytes c.begin_line.new.out.items (c.in-Ok.ensures {u = tt}).ok;
   over = λ e. cc;
   lines = (c.in-Ok.ensures {u = tt}).lines;
   failures = omega arith;
@@ -25,22 +24,20 @@ loop-is_going-init g c = record {
 pub returns-in_default-write_much-clause-err : goal.returns-in_default-write_much-clause-err
 returns-in_default-write_much-clause-err g c = (
   playing_part (with_text c.args.ready.now.items (g.S.Driven.sim c.args.driven.now)) (g.S.Driven.sim c.loop-is_going.driven) c.args.line.now
-      (g.W.Output.contents c.args.output.now) (g.W.Output.contents c.loop-is_going.output) (g.W.Output.contents c.write_much.new.output) c.loop-is_going.ready.items c.loop-is_going.invariant.playing c.write_much.ensures.part,
+      (g.W.Output.seen c.args.output.now).bytes (g.W.Output.seen c.loop-is_going.output).bytes (g.W.Output.seen c.write_much.new.output).bytes c.loop-is_going.ready.items c.loop-is_going.invariant.playing c.write_much.ensures.part,
   omega (arith, c.in_default-write_much.ensures.failed, c.loop-is_going.invariant.failures),
 )
 
 pub returns-in_default-go_on-clause-err : goal.returns-in_default-go_on-clause-err
 returns-in_default-go_on-clause-err g c =
     let moved = playing_moved (with_text c.args.ready.now.items (g.S.Driven.sim c.args.driven.now)) (g.S.Driven.sim c.loop-is_going.driven) c.args.line.now
-    (g.W.Output.contents c.args.output.now) (g.W.Output.contents c.loop-is_going.output) (g.W.Output.contents c.write_much.new.output) c.loop-is_going.ready.items c.write_much.new.ready.items
+    (g.W.Output.seen c.args.output.now).bytes (g.W.Output.seen c.loop-is_going.output).bytes (g.W.Output.seen c.write_much.new.output).bytes c.loop-is_going.ready.items c.write_much.new.ready.items
     c.loop-is_going.invariant.playing (c.in-Ok-write_much.ensures {u = tt}).ok in
     let same : c.go_on.new.out.items ≡ c.write_much.new.ready.items = c.in_default-go_on.ensures.err in
     playing_flushed c.out_of_memory-in_default-go_on.result (with_text c.args.ready.now.items (g.S.Driven.sim c.args.driven.now)) (g.S.Driven.sim c.loop-is_going.driven) c.args.line.now
-    (g.W.Output.contents c.args.output.now) (g.W.Output.contents c.write_much.new.output) (g.W.Output.contents c.out_of_memory-in_default-go_on.new.output) c.write_much.new.ready.items
-    (g.W.Output.failures c.args.output.now) (g.W.Output.failures c.write_much.new.output) (g.W.Output.failures c.out_of_memory-in_default-go_on.new.output)
+    (g.W.Output.seen c.args.output.now) (g.W.Output.seen c.write_much.new.output) (g.W.Output.seen c.out_of_memory-in_default-go_on.new.output) c.write_much.new.ready.items
     moved (omega (arith, c.loop-is_going.invariant.failures, c.write_much.ensures.kept))
-    (subst (λ (bytes : List ℕ). Flushes c.out_of_memory-in_default-go_on.result (g.W.Output.contents c.write_much.new.output) (g.W.Output.contents c.out_of_memory-in_default-go_on.new.output) bytes
-    (g.W.Output.failures c.write_much.new.output) (g.W.Output.failures c.out_of_memory-in_default-go_on.new.output)) same c.out_of_memory-in_default-go_on.ensures.end)
+    (subst (λ (bytes : List ℕ). Flushes c.out_of_memory-in_default-go_on.result (g.W.Output.seen c.write_much.new.output) (g.W.Output.seen c.out_of_memory-in_default-go_on.new.output) bytes) same c.out_of_memory-in_default-go_on.ensures.end)
 
 pub loop-is_going-smaller : goal.loop-is_going-smaller
 loop-is_going-smaller g c =
@@ -54,11 +51,11 @@ loop-is_going-smaller g c =
 pub loop-is_going-preserved : goal.loop-is_going-preserved
 loop-is_going-preserved g c =
     let moved = playing_moved (with_text c.args.ready.now.items (g.S.Driven.sim c.args.driven.now)) (g.S.Driven.sim c.loop-is_going.driven) c.args.line.now
-    (g.W.Output.contents c.args.output.now) (g.W.Output.contents c.loop-is_going.output) (g.W.Output.contents c.write_much.new.output) c.loop-is_going.ready.items c.write_much.new.ready.items
+    (g.W.Output.seen c.args.output.now).bytes (g.W.Output.seen c.loop-is_going.output).bytes (g.W.Output.seen c.write_much.new.output).bytes c.loop-is_going.ready.items c.write_much.new.ready.items
     c.loop-is_going.invariant.playing (c.in-Ok-write_much.ensures {u = tt}).ok in
     record {
       playing = playing_on (with_text c.args.ready.now.items (g.S.Driven.sim c.args.driven.now)) (g.S.Driven.sim c.loop-is_going.driven) (g.S.Driven.sim c.go_on.new.self) c.args.line.now
-          (g.W.Output.contents c.args.output.now) (g.W.Output.contents c.write_much.new.output) c.write_much.new.ready.items c.go_on.new.out.items
+          (g.W.Output.seen c.args.output.now).bytes (g.W.Output.seen c.write_much.new.output).bytes c.write_much.new.ready.items c.go_on.new.out.items
           moved c.in-Ok-go_on.ensures.ok;
       over = over_after (g.S.Driven.sim c.loop-is_going.driven) (g.S.Driven.sim c.go_on.new.self) c.write_much.new.ready.items c.go_on.new.out.items c.in-Ok-go_on.went_on
           c.in-Ok-go_on.ensures.happened c.in-Ok-go_on.ensures.ok;
@@ -69,7 +66,7 @@ loop-is_going-preserved g c =
 pub returns-clause-ok : goal.returns-clause-ok
 returns-clause-ok g c =
     playing_done (with_text c.args.ready.now.items (g.S.Driven.sim c.args.driven.now)) (g.S.Driven.sim c.loop-is_going.driven) c.args.line.now
-    (g.W.Output.contents c.args.output.now) (g.W.Output.contents c.loop-is_going.output) c.loop-is_going.ready.items c.loop-is_going.invariant.playing
+    (g.W.Output.seen c.args.output.now).bytes (g.W.Output.seen c.loop-is_going.output).bytes c.loop-is_going.ready.items c.loop-is_going.invariant.playing
     (c.loop-is_going.invariant.over c.loop-is_going-test.false)
 
 pub returns-clause-lines : goal.returns-clause-lines

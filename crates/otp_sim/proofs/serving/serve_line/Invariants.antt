@@ -10,10 +10,10 @@ use Rattle.otp_sim.proofs.serving.serve_line.Given as goal
 abbrev pub invariant-loop-is_going : goal.invariant-loop-is_going
 invariant-loop-is_going g l = record {
   playing : Playing (with_text l.fn.ready.items (g.S.Driven.sim l.fn.driven)) l.line
-      (g.W.Output.contents l.fn.output) (g.W.Output.contents l.output) l.ready.items (g.S.Driven.sim l.driven);
+      (g.W.Output.seen l.fn.output).bytes (g.W.Output.seen l.output).bytes l.ready.items (g.S.Driven.sim l.driven);
   over : l.is_going ≡ false → next_kind (g.S.Driven.sim l.driven) ≡ None;
   lines : (g.S.Driven.sim l.driven).lines ≤ (g.S.Driven.sim l.fn.driven).lines + 1;
-  failures : g.W.Output.failures l.fn.output ≤ g.W.Output.failures l.output;
+  failures : (g.W.Output.seen l.fn.output).failures ≤ (g.W.Output.seen l.output).failures;
 }
 
 abbrev pub decreases-loop-is_going : goal.decreases-loop-is_going

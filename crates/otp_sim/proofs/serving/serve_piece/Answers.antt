@@ -2,7 +2,7 @@ use Rattle.std.proofs.Common.{arith, sym, subst, [], ◌==◌, false, length-dro
 use Rattle.std.proofs.lemmas.Grind.{common_steps}
 use Rattle.std.proofs.lemmas.List.Elements.{All-nil}
 use Rattle.otp_sim.specs.Runs.{NoEnd}
-use Rattle.otp_sim.proofs.Progress.{ran_start, part_no_end, rest_no_end, ends_earlier, flushed, next_ends, next_ran}
+use Rattle.otp_sim.proofs.Progress.{ran_start, part_no_end, rest_no_end, flushed, next_ends, next_ran}
 use Rattle.otp_sim.proofs.serving.serve_piece.Goals as goal
 
 pub loop-end-init : goal.loop-end-init
@@ -20,7 +20,7 @@ serve_next-requires-clause-kept g c =
 pub returns-in-Err-clause-err : goal.returns-in-Err-clause-err
 returns-in-Err-clause-err g c =
     next_ends c.in-Err.why _ (g.S.Driven.sim c.loop-end.driven) _ _ _ c.loop-end.ready.items _ c.loop-end.kept.items c.loop-end.rest.now
-    c.in-Some.end _ _ _ (sym c.in-Some.ensures.found) c.loop-end.invariant.ran c.loop-end.invariant.failures c.in-Err.ensures.err
+    c.in-Some.end (sym c.in-Some.ensures.found) c.loop-end.invariant.ran c.loop-end.invariant.failures c.in-Err.ensures.err
 
 pub loop-end-preserved : goal.loop-end-preserved
 loop-end-preserved g c =
@@ -39,9 +39,8 @@ loop-end-preserved g c =
 
 pub returns-in_default-extend_from_slice-clause-err : goal.returns-in_default-extend_from_slice-clause-err
 returns-in_default-extend_from_slice-clause-err g c =
-    ends_earlier c.out_of_memory.result _ _ _ _ _ _ _ c.loop-end.invariant.failures
-    (flushed c.out_of_memory.result _ (g.S.Driven.sim c.loop-end.driven) _ _ _ c.loop-end.ready.items _ _ _ _
-    c.loop-end.invariant.ran c.out_of_memory.ensures.end)
+    flushed c.out_of_memory.result _ (g.S.Driven.sim c.loop-end.driven) _ _ _ c.loop-end.ready.items _ _
+    c.loop-end.invariant.ran c.loop-end.invariant.failures c.out_of_memory.ensures.end
 
 pub returns-clause-no_end : goal.returns-clause-no_end
 returns-clause-no_end g c =

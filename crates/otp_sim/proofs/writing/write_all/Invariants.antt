@@ -5,8 +5,8 @@ use Rattle.otp_sim.proofs.writing.write_all.Given as goal
 -- some of the bytes are written, and these are left
 abbrev pub invariant-loop-rest : goal.invariant-loop-rest
 invariant-loop-rest g l = record {
-  half : Halfway (g.W.Output.contents l.initial.output) (g.W.Output.contents l.output) l.bytes l.rest;
-  kept : g.W.Output.failures l.initial.output ≤ g.W.Output.failures l.output;
+  half : Halfway (g.W.Output.seen l.initial.output).bytes (g.W.Output.seen l.output).bytes l.bytes l.rest;
+  kept : (g.W.Output.seen l.initial.output).failures ≤ (g.W.Output.seen l.output).failures;
 }
 
 abbrev pub decreases-loop-rest : goal.decreases-loop-rest

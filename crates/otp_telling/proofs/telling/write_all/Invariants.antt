@@ -6,5 +6,5 @@ use Rattle.otp_telling.proofs.telling.write_all.Given as goal
 
 abbrev pub invariant-loop-order : goal.invariant-loop-order
 invariant-loop-order l =
-    l.out.items ++ flat_map (line_if l.tells l.time l.path l.starts (stored_state l.core).replies) (drop l.order-index l.orders)
-    ≡ l.fn.out.items ++ flat_map (line_if l.tells l.time l.path l.starts (stored_state l.core).replies) l.orders
+    l.out.items ++ flat_map (line_if l.scene.tells l.scene.time l.scene.path.now l.scene.starts.now (stored_state l.core).replies) (drop l.order-index l.orders)
+    ≡ l.fn.out.items ++ flat_map (line_if l.scene.tells l.scene.time l.scene.path.now l.scene.starts.now (stored_state l.core).replies) l.orders

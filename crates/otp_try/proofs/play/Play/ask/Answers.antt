@@ -7,8 +7,8 @@ pub returns-in-Ok : goal.returns-in-Ok
 returns-in-Ok g c =
     let b : List Seated = c.prompt.new.self.trial in
     still_ran c.hand_out.result c.args.self.now.trial b c.hand_out.new.self.trial c.args.self.now.page.items c.prompt.new.self.page.items c.hand_out.new.self.page.items
-    (g.W.Output.contents c.args.output.now) (g.W.Output.contents c.args.output.now) (g.W.Output.contents c.hand_out.new.output)
-    (wrote_adds c.args.self.now.trial b c.args.self.now.page.items c.prompt.new.self.page.items (g.W.Output.contents c.args.output.now) c.in-Ok.ensures) c.hand_out.ensures.same (c.hand_out.ensures.ran b)
+    (g.W.Output.seen c.args.output.now).bytes (g.W.Output.seen c.args.output.now).bytes (g.W.Output.seen c.hand_out.new.output).bytes
+    (wrote_adds c.args.self.now.trial b c.args.self.now.page.items c.prompt.new.self.page.items (g.W.Output.seen c.args.output.now).bytes c.in-Ok.ensures) c.hand_out.ensures.same (c.hand_out.ensures.ran b)
 
 pub returns-in-Err : goal.returns-in-Err
-returns-in-Err g c = stops_adds c.in-Err.end c.args.self.now.trial c.prompt.new.self.trial c.args.self.now.page.items c.prompt.new.self.page.items (g.W.Output.contents c.args.output.now) c.in-Err.ensures
+returns-in-Err g c = stops_adds c.in-Err.end c.args.self.now.trial c.prompt.new.self.trial c.args.self.now.page.items c.prompt.new.self.page.items (g.W.Output.seen c.args.output.now).bytes c.in-Err.ensures

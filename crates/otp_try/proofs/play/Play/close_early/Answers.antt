@@ -3,4 +3,4 @@ use Rattle.otp_try.proofs.play.Play.close_early.Goals as goal
 
 pub returns-in_default : goal.returns-in_default
 returns-in_default g c seats page before so_far =
-    ends_early c.args.end c.write_last.result seats page c.args.self.now.page.items before (g.W.Output.contents c.args.output.now) (g.W.Output.contents c.write_last.new.output) c.in_default.not-OutputFailed so_far (c.write_last.ensures)
+    ends_early c.args.end c.write_last.result seats page c.args.self.now.page.items before (g.W.Output.seen c.args.output.now).bytes (g.W.Output.seen c.write_last.new.output).bytes c.in_default.not-OutputFailed so_far (c.write_last.ensures)

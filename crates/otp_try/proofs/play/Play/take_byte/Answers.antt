@@ -8,13 +8,13 @@ pub returns-in-Ok : goal.returns-in-Ok
 returns-in-Ok g c =
     let b : List Seated = c.take_line.new.self.trial in
     still_ran c.hand_out_much.result c.args.self.now.trial b c.hand_out_much.new.self.trial c.args.self.now.page.items c.take_line.new.self.page.items c.hand_out_much.new.self.page.items
-    (g.W.Output.contents c.args.output.now) (g.W.Output.contents c.args.output.now) (g.W.Output.contents c.hand_out_much.new.output)
-    (wrote_adds c.args.self.now.trial b c.args.self.now.page.items c.take_line.new.self.page.items (g.W.Output.contents c.args.output.now) c.in-Ok.ensures) c.hand_out_much.ensures.same (c.hand_out_much.ensures.ran b)
+    (g.W.Output.seen c.args.output.now).bytes (g.W.Output.seen c.args.output.now).bytes (g.W.Output.seen c.hand_out_much.new.output).bytes
+    (wrote_adds c.args.self.now.trial b c.args.self.now.page.items c.take_line.new.self.page.items (g.W.Output.seen c.args.output.now).bytes c.in-Ok.ensures) c.hand_out_much.ensures.same (c.hand_out_much.ensures.ran b)
 
 pub returns-in-Err : goal.returns-in-Err
 returns-in-Err g c =
-    stops_adds c.in-Err.end c.args.self.now.trial c.take_line.new.self.trial c.args.self.now.page.items c.take_line.new.self.page.items (g.W.Output.contents c.args.output.now) c.in-Err.ensures
+    stops_adds c.in-Err.end c.args.self.now.trial c.take_line.new.self.trial c.args.self.now.page.items c.take_line.new.self.page.items (g.W.Output.seen c.args.output.now).bytes c.in-Err.ensures
 
 pub returns-then-byte-ne10 : goal.returns-then-byte-ne10
 returns-then-byte-ne10 g c =
-    ran_adds c.keep.result c.args.self.now.trial c.args.self.now.trial c.args.self.now.page.items c.args.self.now.page.items (g.W.Output.contents c.args.output.now) (adds_any c.keep.result c.args.self.now.trial c.args.self.now.trial c.args.self.now.page.items c.args.self.now.page.items (adds_nothing c.args.self.now.trial c.args.self.now.trial c.args.self.now.page.items c.args.self.now.page.items refl refl))
+    ran_adds c.keep.result c.args.self.now.trial c.args.self.now.trial c.args.self.now.page.items c.args.self.now.page.items (g.W.Output.seen c.args.output.now).bytes (adds_any c.keep.result c.args.self.now.trial c.args.self.now.trial c.args.self.now.page.items c.args.self.now.page.items (adds_nothing c.args.self.now.trial c.args.self.now.trial c.args.self.now.page.items c.args.self.now.page.items refl refl))

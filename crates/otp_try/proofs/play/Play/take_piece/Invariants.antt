@@ -3,4 +3,4 @@ use Rattle.otp_try.proofs.play.Play.take_piece.Given as goal
 
 abbrev pub invariant-loop-byte : goal.invariant-loop-byte
 invariant-loop-byte g l =
-    Wrote l.fn.self.trial l.self.trial l.fn.self.page.items l.self.page.items (g.W.Output.contents l.fn.output) (g.W.Output.contents l.output)
+    Wrote l.fn.self.trial l.self.trial l.fn.self.page.items l.self.page.items (g.W.Output.seen l.fn.output).bytes (g.W.Output.seen l.output).bytes
