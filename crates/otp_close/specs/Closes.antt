@@ -48,7 +48,7 @@ HasBegun t = Begins t.core.base
 
 -- each core began as the supervisor that these plans have under its number, which was never opened: with the flags and the
 -- specifications of that plan
-abbrev pub HaveBegun : (ℕ → Supervisor) → List TableReport → Type 0
+abbrev pub HaveBegun : (ℕ → Option Supervisor) → List TableReport → Type 0
 HaveBegun plans tables = AllAt (λ k (t : TableReport). t.core.base ≡ never_opened (plans k)) tables
 
 -- each end of another supervisor that the history was told is for the note's reason, and shown

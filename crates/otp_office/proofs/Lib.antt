@@ -11,3 +11,4 @@ pub mod StartOrders
 pub mod Telling
 mod Worked
 pub mod Due
+pub mod Anew

@@ -1,5 +1,5 @@
 -- What a table stands for, and what it keeps.
-use Rattle.std.specs.Prelude.{◌≡◌, ◌==◌, ⊤, Bool, ◌∷◌, ℕ, ◌+◌, ◌<◌, ◌≤◌, true, false, ◌||◌, List, [], length, All, Contains}
+use Rattle.std.specs.Prelude.{◌≡◌, ◌==◌, ⊤, Bool, ◌∷◌, ℕ, ◌+◌, ◌<◌, ◌≤◌, true, false, ◌||◌, List, [], Option, length, All, Contains}
 use Rattle.std.specs.List.{list_any}
 use Rattle.otp_bodies.specs.declared.letter.Message.{Message}
 use Rattle.otp_rules.specs.Counts.{counts_of}
@@ -23,7 +23,7 @@ use Rattle.otp_bodies.specs.Messages.{items_in}
 use Rattle.otp_sup.specs.Told.{ends_told_in}
 use Rattle.otp_office.specs.Events.{items_of}
 use Rattle.otp_office.specs.Offices.{KeepsOffice, OfficeView, starts_sent}
-use Rattle.otp_sup.specs.Plans.{never_opened}
+use Rattle.otp_sup.specs.Plans.{IsBegunBy}
 
 -- what contracts see of a table
 pub record TableView : Type 0 where
@@ -101,9 +101,9 @@ abbrev pub HaveOneBody : OfficeView → List Kept → Type 0
 HaveOneBody o kept = (row : Row) → Contains (state_of o.core).rows row → HasOneBody (state_of o.core) (starts_in o.outbox) kept row
 
 -- of the plans that all supervisors have, by the numbers of their inboxes
-pub record IsTable (plans : ℕ → Supervisor) (t : TableView) : Type 0 where
+pub record IsTable (plans : ℕ → Option Supervisor) (t : TableView) : Type 0 where
   -- its history begins with the supervisor of its plan, never opened
-  pub plan : t.office.core.base ≡ never_opened (plans t.taker.inbox)
+  pub plan : IsBegunBy (plans t.taker.inbox) t.office.core.base
   pub taken : items_in t.taker.taken ≡ items_of t.office.core.history
   -- each start call that waits has its body with it, in their order
   pub calls : calls_waiting t.bodies ≡ starts_waiting (state_of t.office.core).waiting
@@ -119,9 +119,10 @@ pub record IsTable (plans : ℕ → Supervisor) (t : TableView) : Type 0 where
   pub turns : t.taker.given.turns ≡ length t.office.core.history + t.taker.empty_finds
 
 -- what holds whenever the lock is free, where the supervisors have these plans by the numbers of their inboxes
-pub record KeepsRules (plans : ℕ → Supervisor) (t : TableView) : Type 0 where
-  -- its history begins with the supervisor of its plan, never opened: the flags and the specifications are that plan's
-  pub plan : t.office.core.base ≡ never_opened (plans t.taker.inbox)
+pub record KeepsRules (plans : ℕ → Option Supervisor) (t : TableView) : Type 0 where
+  -- its history begins with the supervisor of its plan, never opened: the flags and the specifications are that plan's. One that
+  -- got its plan later began as some supervisor that was never opened (the office says so)
+  pub plan : IsBegunBy (plans t.taker.inbox) t.office.core.base
   pub office : KeepsOffice t.office
   -- the items taken from the inbox are those of the history, each once and in order
   pub taken : items_in t.taker.taken ≡ items_of t.office.core.history

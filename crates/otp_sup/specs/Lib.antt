@@ -6,3 +6,4 @@ pub mod Plans
 pub mod Shares
 pub mod Told
 pub mod Turns
+pub mod Anew
