@@ -27,4 +27,4 @@ pub use child::{Child, ChildKeys, Runs};
 pub use draft::TreeDraft;
 pub use fault::{DraftFault, Refused};
 pub use limits::MAX_DEPTH;
-pub use plan::{TablePlan, TreePlan};
+pub use plan::{TablePlan, TreePlan, number_bodies};

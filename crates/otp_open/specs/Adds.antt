@@ -1,6 +1,7 @@
 -- Supervisors that are added to a tree. (own)
-use Rattle.std.specs.Prelude.{◌≡◌, ℕ, ◌+◌, ◌≤◌, ⊤, List, [], ◌∷◌, Bool, true, length, nat_lt}
+use Rattle.std.specs.Prelude.{◌≡◌, ℕ, ◌≤◌, ⊤, List, [], ◌∷◌, All, Bool, true, length, nat_lt}
 use Rattle.otp_bodies.specs.Bodies.{BodiesView}
+use Rattle.otp_draft.specs.Plans.{IsNear}
 use Rattle.otp_job.specs.declared.body.Body.{Body}
 use Rattle.otp_job.specs.declared.body.Body.TheVariants as body
 use Rattle.otp_run.specs.Lists.{AllAt}
@@ -13,16 +14,9 @@ module _ {J S : Type 0} where
   is_within count (body.Worker job) = true
   is_within count (body.Bridge bridge) = true
 
-  -- each child of these plans that is a supervisor has a number below this one
-  abbrev pub AreWithin : ℕ → List (TablePlan J S) → Type 0
-  AreWithin count plans = AllAt (λ _ (plan : TablePlan J S). AllAt (λ _ b. is_within count b ≡ true) plan.bodies.items) plans
-
-  -- the body of a child where the first of those that are added has this number: before, the number of a supervisor says its place
-  -- among them
-  abbrev pub body_from : ℕ → Body J S → Body J S
-  body_from first (body.Sup place) = body.Sup (first + place)
-  body_from first (body.Worker job) = body.Worker job
-  body_from first (body.Bridge bridge) = body.Bridge bridge
+  -- each child of these plans that is a supervisor has a number below 64
+  abbrev pub AreNear : List (TablePlan J S) → Type 0
+  AreNear plans = AllAt (λ _ (plan : TablePlan J S). All IsNear plan.bodies.items) plans
 
   -- the memory for the bodies of this plan
   pub record IsSpaceFor (plan : TablePlan J S) (space : BodiesView) : Type 0 where

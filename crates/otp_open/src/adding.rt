@@ -1,16 +1,18 @@
 //! Supervisors are added to places of a tree that have none. All memory is taken before anything is moved, so that a refusal
 //! leaves the plans whole; then each place gets its supervisor, under the place's own lock.
-ghost use Rattle.std.specs.Prelude.{◌≡◌, ◌+◌, ◌<◌, ◌≤◌, ℕ, IfErr, IfNone, IfOk, IfSome, IsTrue, None, length, map, true};
-ghost use Rattle.otp_run.specs.Lists.{AllAt};
-ghost use Rattle.otp_open.specs.Adds.{AreWithin, Fit, IsSpaceFor, body_from, is_within};
+ghost use Rattle.std.specs.Prelude.{◌≡◌, ◌+◌, ◌<◌, ◌≤◌, ℕ, All, IfNone, IfOk, IfSome, IsTrue, None, length};
+ghost use Rattle.otp_draft.specs.Plans.{IsNear};
+ghost use Rattle.otp_spec.specs.declared.limits.TheConstants.{MAX_TABLES};
+ghost use Rattle.otp_open.specs.Adds.{AreNear, Fit, IsSpaceFor, is_within};
 ghost use Rattle.otp_open.specs.Plans.{HasBodies, HaveBodies, IsLackingAt};
 ghost use Rattle.otp_sup.specs.Plans.{IsPlanned};
 
 use crate::plan::TablePlan;
+use otp_draft::number_bodies;
 use otp_hand::Shared;
 use otp_hand::places::{keep, next_of};
 use otp_inbox::InboxNaming;
-use otp_job::{Body, TableNo};
+use otp_job::Body;
 use otp_signals::WordsNaming;
 use otp_sup::{Bodies, PlanNaming, Sup, count_opened};
 use std::alloc::{AllocError, Global};
@@ -32,7 +34,8 @@ pub fn find_lacking<J: Drop, S: Drop>(plans: &[TablePlan<J, S>]) -> Option<usize
 
 /// The number of the first of these plans that has a supervisor for a child which isn't among them.
 pub fn find_stranger<J: Drop, S: Drop>(plans: &[TablePlan<J, S>]) -> Option<usize>
-    ensures none { IfNone result (AreWithin (length plans.now) plans.now) }
+    requires { length plans.now ≤ MAX_TABLES }
+    ensures { IfNone result (AreNear plans.now) }
 {
     for place in 0..plans.len() {
         if !are_within(plans[place].bodies.as_slice(), plans.len()) {
@@ -44,7 +47,8 @@ pub fn find_stranger<J: Drop, S: Drop>(plans: &[TablePlan<J, S>]) -> Option<usiz
 
 /// Whether each of them that is a supervisor has a number below this one.
 fn are_within<J: Drop, S: Drop>(bodies: &[Body<J, S>], count: usize) -> bool
-    ensures { IsTrue result → AllAt (λ _ body. is_within count body ≡ true) bodies.now }
+    requires { count ≤ MAX_TABLES }
+    ensures { IsTrue result → All IsNear bodies.now }
 {
     for place in 0..bodies.len() {
         if !is_within(&bodies[place], count) {
@@ -56,7 +60,9 @@ fn are_within<J: Drop, S: Drop>(bodies: &[Body<J, S>], count: usize) -> bool
 
 /// Whether it is no supervisor, or one with a number below this one.
 fn is_within<J: Drop, S: Drop>(body: &Body<J, S>, count: usize) -> bool
-    ensures { result ≡ is_within count body.now }
+    requires { count ≤ MAX_TABLES }
+    ensures value { result ≡ is_within count body.now }
+    ensures near { IsTrue result → IsNear body.now }
 {
     match body {
         Body::Sup(table) => table.number() < count,
@@ -85,37 +91,6 @@ pub fn make_spaces<J: Drop, S: Drop>(
     Ok(spaces)
 }
 
-/// Gives a child's body its number in the tree, where it is a supervisor's: the first of those that are added has this number.
-fn number_body<J: Drop, S: Drop>(body: &mut Body<J, S>, first: usize, count: usize)
-    requires within { is_within count body.old ≡ true }
-    requires few { first + count < 256 }
-    ensures { body.new ≡ body_from first body.old }
-{
-    if let Body::Sup(table) = body {
-        *table = TableNo::new(first + table.number());
-    }
-}
-
-/// The same for all bodies of a supervisor.
-fn number_bodies<J: Drop, S: Drop>(bodies: &mut [Body<J, S>], first: usize, count: usize)
-    requires within { AllAt (λ _ body. is_within count body ≡ true) bodies.old }
-    requires few { first + count < 256 }
-    ensures { bodies.new ≡ map (body_from first) bodies.old }
-{
-    for body in bodies.iter_mut() {
-        number_body(body, first, count);
-    }
-}
-
-/// The same of a whole list.
-fn number_list<J: Drop, S: Drop>(bodies: &mut Vec<Body<J, S>>, first: usize, count: usize)
-    requires within { AllAt (λ _ body. is_within count body ≡ true) bodies.old.items }
-    requires few { first + count < 256 }
-    ensures { bodies.new.items ≡ map (body_from first) bodies.old.items }
-{
-    number_bodies(bodies, first, count);
-}
-
 /// Gives a place its supervisor. False where the place had one that was opened: it is dropped then.
 fn plan_one<N: WordsNaming + InboxNaming + PlanNaming, J: Drop, S: Drop, R: Wait>(
     rt: &R,
@@ -124,19 +99,18 @@ fn plan_one<N: WordsNaming + InboxNaming + PlanNaming, J: Drop, S: Drop, R: Wait
     plan: TablePlan<J, S>,
     space: Bodies<Body<J, S>>,
     first: usize,
-    count: usize,
 ) -> bool
     requires plan { IsPlanned (N.plan sup.now.inbox) plan.supervisor }
     requires bodies { HasBodies plan }
     requires space { IsSpaceFor plan space }
-    requires within { AllAt (λ _ body. is_within count body ≡ true) plan.bodies.items }
-    requires few { first + count < 256 }
+    requires near { All IsNear plan.bodies.items }
+    requires few { first < MAX_TABLES }
 {
     let TablePlan {
         supervisor,
         mut bodies,
     } = plan;
-    number_list(&mut bodies, first, count);
+    number_bodies(&mut bodies, first);
     let bodies = space.hand_in_list(bodies);
     match sup.plan_anew(rt, alloc, supervisor, bodies) {
         Ok(()) => true,
@@ -177,12 +151,11 @@ pub fn plan_all<N: WordsNaming + InboxNaming + PlanNaming, J: Drop, S: Drop, R: 
     spaces: Vec<Bodies<Body<J, S>>>,
 ) -> bool
     requires free { (k : ℕ) → first ≤ k → N.plan k ≡ None }
-    requires few { first + length plans.items < 256 }
+    requires few { first + length plans.items ≤ MAX_TABLES }
     requires bodies { HaveBodies plans.items }
-    requires within { AreWithin (length plans.items) plans.items }
+    requires near { AreNear plans.items }
     requires fit { Fit plans.items spaces.items }
 {
-    let count = plans.len();
     let mut spaces = spaces.into_iter();
     let mut number = first;
     let mut are_all = true;
@@ -193,7 +166,7 @@ pub fn plan_all<N: WordsNaming + InboxNaming + PlanNaming, J: Drop, S: Drop, R: 
             drop(space);
             return false;
         };
-        if !plan_one(rt, alloc, sup, plan, space, first, count) {
+        if !plan_one(rt, alloc, sup, plan, space, first) {
             are_all = false;
         }
         number += 1;

@@ -8,12 +8,15 @@ use Rattle.otp_close.proofs.Standings.{complete_kept}
 use Rattle.otp_close.proofs.closing.finish.Goals as goal
 
 pub returns-in-Ok-clause-report : goal.returns-in-Ok-clause-report
-returns-in-Ok-clause-report g c =
+returns-in-Ok-clause-report g c = λ all.
     let e = c.in-Ok.ensures {u = tt} in
+    let count = e.count in
+    let many = count.many in
+    let few = count.few in
     let report = c.in-Ok.report in
     let total = e.live in
     record {
-      count = e.count;
+      count = omega (arith, all, many, few);
       begins = e.begins;
       shown = e.shown;
       apart = e.apart;

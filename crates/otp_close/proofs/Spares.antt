@@ -1,0 +1,92 @@
+-- What is so of all places of a tree is so of those that had a supervisor.
+use Rattle.std.proofs.Common.{◌≡◌, ℕ, zero, suc, ◌+◌, ◌<◌, ◌≤◌, List, [], ◌∷◌, ◌++◌, ap, arith, drop, get_or, length, refl, subst, sym, take, ◌∙◌}
+use Rattle.std.specs.Prelude.{All, sum_by}
+use Rattle.std.proofs.lemmas.List.{get_or-take, length-take-le, take-append-drop}
+use Rattle.std.proofs.lemmas.List.Elements.{All-take}
+use Rattle.std.proofs.lemmas.List.Sums.{sum_by-append, sum_by-cons}
+use Rattle.otp_hand.specs.Ended.{ends_in}
+use Rattle.otp_office.specs.Events.{items_of}
+use Rattle.otp_report.specs.declared.report.Report.{Report}
+use Rattle.otp_report.specs.declared.report.TableReport.{TableReport}
+use Rattle.otp_rules.specs.Needs.{numbers_of}
+use Rattle.otp_rules.specs.declared.event.Event.{Event}
+use Rattle.otp_rules.specs.declared.event.Item.{Item}
+use Rattle.otp_run.specs.Lists.{AllAt}
+use Rattle.otp_signals.specs.Lists.{NoneInBoth}
+use Rattle.otp_close.specs.Closes.{AreApart, AreCounted}
+use Rattle.otp_close.specs.Spares.{AreFirst, IsUnused}
+use Rattle.otp_close.specs.Totals.{HasAllEnds, HasAllStarts, ends_of, starts_of, unsent_of}
+
+taken_at : {A : Type 0} (P : ℕ → A → Type 0) (n : ℕ) (xs : List A) → AllAt P xs → AllAt P (take n xs)
+taken_at P zero xs all k = tt
+taken_at P (suc n) [] all k = tt
+taken_at P (suc n) (x ∷ xs) all zero = all zero
+taken_at P (suc n) (x ∷ xs) all (suc k) = taken_at (λ j. P (suc j)) n xs (λ j. all (suc j)) k
+
+pub first_at : (P : ℕ → TableReport → Type 0) (known : ℕ) (all first : List TableReport) → AreFirst known all first → AllAt P all → AllAt P first
+first_at P known all first f each = subst (AllAt P) (sym f.are) (taken_at P f.count all each)
+
+pub first_all : (P : TableReport → Type 0) (known : ℕ) (all first : List TableReport) → AreFirst known all first → All P all → All P first
+first_all P known all first f each = subst (All P) (sym f.are) (All-take P f.count all each)
+
+pub first_apart : (known : ℕ) (all first : List TableReport) → AreFirst known all first → AreApart all → AreApart first
+first_apart known all first f each = subst AreApart (sym f.are) taken
+  where
+    n : ℕ
+    n = f.count
+
+    taken : AreApart (take n all)
+    taken i j d before within =
+        let long = length-take-le n all f.few in
+        let few = f.few in
+        let at_j : j < n = omega (arith, within, long) in
+        let at_i : i < n = omega (arith, before, at_j) in
+        let Apart : TableReport → TableReport → Type 0 = λ a b. NoneInBoth (numbers_of a.core.history) (numbers_of b.core.history) in
+        subst (λ a. Apart a (get_or (take n all) j d)) (sym (get_or-take n all i d at_i))
+        (subst (λ b. Apart (get_or all i d) b) (sym (get_or-take n all j d at_j)) (each i j d before (omega (arith, at_j, few))))
+
+none_of : (f : TableReport → ℕ) → ((t : TableReport) → IsUnused t → f t ≡ 0) → (ts : List TableReport) → All IsUnused ts → sum_by f ts ≡ 0
+none_of f none [] unused = refl
+none_of f none (t ∷ ts) unused =
+    let all = sum_by-cons f t ts in
+    let first = none t (unused 0 t (omega arith)) in
+    let rest = none_of f none ts (λ k d within. unused (suc k) d (omega (arith, within))) in
+    omega (arith, all, first, rest)
+
+-- what an unused place has none of adds up to the same
+first_sum : (f : TableReport → ℕ) → ((t : TableReport) → IsUnused t → f t ≡ 0) → (known : ℕ) (all first : List TableReport) → AreFirst known all first → sum_by f first ≡ sum_by f all
+first_sum f none known all first is =
+    let parts = ap (sum_by f) (sym (take-append-drop is.count all)) ∙ sum_by-append f (take is.count all) (drop is.count all) in
+    let rest = none_of f none (drop is.count all) is.unused in
+    let same = ap (sum_by f) is.are in
+    omega (arith, parts, rest, same)
+
+unused_starts : (t : TableReport) → IsUnused t → starts_of t ≡ 0
+unused_starts t u = ap (λ (l : List Event). length (numbers_of l)) u.history
+
+unused_unsent : (t : TableReport) → IsUnused t → unsent_of t ≡ 0
+unused_unsent t u = u.unsent
+
+unused_ends : (t : TableReport) → IsUnused t → ends_of t ≡ 0
+unused_ends t u = ap (λ (l : List Event). ends_in (items_of l ++ t.left.items)) u.history ∙ ap (λ (l : List Item). ends_in l) u.left
+
+pub first_counted : (known places : ℕ) (all first : List TableReport) → AreFirst known all first → length all ≡ places → AreCounted known places (length first)
+first_counted known places all first f long =
+    let count = ap length f.are ∙ length-take-le f.count all f.few in
+    let few = f.few in
+    let many = f.many in
+    record { many = omega (arith, count, many, long); few = omega (arith, count, few, long) }
+
+module _ {J S : Type 0} where
+  pub first_starts : (known : ℕ) (report later : Report J S) → AreFirst known report.tables.items later.tables.items → later.begun ≡ report.begun → HasAllStarts report → HasAllStarts later
+  first_starts known report later f begun all =
+      let starts = first_sum starts_of unused_starts known report.tables.items later.tables.items f in
+      let unsent = first_sum unsent_of unused_unsent known report.tables.items later.tables.items f in
+      omega (arith, all, begun, starts, unsent)
+
+  pub first_ends : (known : ℕ) (report later : Report J S) → AreFirst known report.tables.items later.tables.items → later.ended ≡ report.ended → later.last ≡ report.last → later.heard ≡ report.heard → later.held ≡ report.held
+      → HasAllEnds report → HasAllEnds later
+  first_ends known report later f ended last heard held all =
+      let ends = first_sum ends_of unused_ends known report.tables.items later.tables.items f in
+      let left = ap (λ l. ends_in l.items) last in
+      omega (arith, all, ended, ends, left, heard, held)
