@@ -2,3 +2,4 @@ pub mod Closes
 pub mod Hearings
 pub mod Servings
 pub mod Callings
+pub mod Adds
