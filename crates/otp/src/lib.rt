@@ -17,7 +17,8 @@
 //!
 //! `crates/otp_uses/src/until_stopped.rt` is this whole, with its job: another thread raises the stop, and a watch writes what
 //! happens. Whoever does more with the open tree writes a [`Session`]:
-//! [`plans`] makes what [`with_system`] takes.
+//! [`plans`] makes what [`with_system`] takes. To a tree that [`with_growing_system`] opened a session adds others while it runs
+//! ([`add_tree`]).
 //!
 //! # Limits
 //!
@@ -25,10 +26,12 @@
 //! is served by 1 to [`MAX_HANDS`] hands. `docs/FORMATS.md` has what happens at each limit.
 #![tactic(auto)]
 
+pub mod adding;
 pub mod fault;
 pub mod running;
 pub mod still;
 
+pub use adding::{NotAdded, add_tree};
 pub use fault::{Fault, Unrun};
 pub use otp_bridge::{BoxedSubsystem, Bridge, Subsystem};
 pub use otp_core::ReplyAnswer;
@@ -48,9 +51,9 @@ pub use otp_spec::{
     SpecFault, SpecKey, Strategy, SupFlags,
 };
 pub use otp_tree::{
-    CallEnd, CallId, CallRequest, Client, CountedRun, Gate, Hand, Leader, Led, MAX_HANDS, Millis,
-    PlanNaming, Report, Round, RunFault, Session, System, SystemFault, TablePlan, TableReport,
-    with_system,
+    AddFault, CallEnd, CallId, CallRefusal, CallRequest, Client, CountedRun, Gate, Hand, Leader,
+    Led, MAX_HANDS, Millis, NoTable, PlanNaming, Report, Round, RunFault, Session, System,
+    SystemFault, TablePlan, TableReport, Unadded, Uncalled, with_growing_system, with_system,
 };
 pub use running::{lead, plans, run, run_counted, run_turns, run_with_callers};
 pub use still::Still;

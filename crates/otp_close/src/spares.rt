@@ -31,10 +31,7 @@ fn count_used(tables: &[TableReport], known: usize) -> usize
 }
 
 /// The report of a tree that had so many supervisors: places behind them that had none are left out.
-pub(crate) fn without_spares<J: Drop, S: Drop>(
-    report: Report<J, S>,
-    known: usize,
-) -> Report<J, S>
+pub(crate) fn without_spares<J: Drop, S: Drop>(report: Report<J, S>, known: usize) -> Report<J, S>
     ensures tables { AreFirst known report.tables.items result.tables.items }
     ensures live { result.live ≡ report.live }
     ensures begun { result.begun ≡ report.begun }

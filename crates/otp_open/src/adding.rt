@@ -1,10 +1,10 @@
 //! Supervisors are added to places of a tree that have none. All memory is taken before anything is moved, so that a refusal
 //! leaves the plans whole; then each place gets its supervisor, under the place's own lock.
-ghost use Rattle.std.specs.Prelude.{◌≡◌, ◌+◌, ◌<◌, ◌≤◌, ℕ, All, IfNone, IfOk, IfSome, IsTrue, None, length};
+ghost use Rattle.std.specs.Prelude.{◌≡◌, ◌+◌, ◌<◌, ◌≤◌, ℕ, All, IfNone, IfOk, IfSome, IsTrue, None, false, length};
 ghost use Rattle.otp_draft.specs.Plans.{IsNear};
 ghost use Rattle.otp_spec.specs.declared.limits.TheConstants.{MAX_TABLES};
 ghost use Rattle.otp_open.specs.Adds.{AreNear, Fit, IsSpaceFor, is_within};
-ghost use Rattle.otp_open.specs.Plans.{HasBodies, HaveBodies, IsLackingAt};
+ghost use Rattle.otp_open.specs.Plans.{HasBodies, HaveBodies, IsLackingAt, LacksBody};
 ghost use Rattle.otp_sup.specs.Plans.{IsPlanned};
 
 use crate::plan::TablePlan;
@@ -24,12 +24,19 @@ pub fn find_lacking<J: Drop, S: Drop>(plans: &[TablePlan<J, S>]) -> Option<usize
     ensures none { IfNone result (HaveBodies plans.now) }
 {
     for place in 0..plans.len() {
-        let plan = &plans[place];
-        if plan.bodies.len() < count_opened(&plan.supervisor) {
+        if lacks_body(&plans[place]) {
             return Some(place);
         }
     }
     None
+}
+
+/// Whether it has fewer bodies than an opening makes children.
+fn lacks_body<J: Drop, S: Drop>(plan: &TablePlan<J, S>) -> bool
+    ensures lacks { IsTrue result → LacksBody plan.now }
+    ensures has { result ≡ false → HasBodies plan.now }
+{
+    plan.bodies.len() < count_opened(&plan.supervisor)
 }
 
 /// The number of the first of these plans that has a supervisor for a child which isn't among them.

@@ -53,11 +53,7 @@ impl<N: WordsNaming + InboxNaming + PlanNaming, J: Drop, S: Drop> System<N, J, S
     /// # Errors
     ///
     /// [`NoTable`]: the tree has none of this number.
-    pub fn reach(
-        &self,
-        client: &Client<N, Body<J, S>>,
-        table: usize,
-    ) -> Result<(), NoTable>
+    pub fn reach(&self, client: &Client<N, Body<J, S>>, table: usize) -> Result<(), NoTable>
         ensures ok { OnOk result (Reaches self.now.tables table client.now) }
         ensures planned { OnErr result (Reaches self.now.tables table client.now → ¬ (is_some (N.plan table) ≡ true)) }
     {

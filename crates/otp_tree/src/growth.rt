@@ -121,7 +121,12 @@ impl<N: PlanNaming> Growth<N> {
     }
 
     /// Notes that a call adds so many supervisors, from this number on. Nothing is noted where memory is refused.
-    pub(crate) fn note<R: Wait>(&self, rt: &R, first: usize, count: usize) -> Result<(), AllocError> {
+    pub(crate) fn note<R: Wait>(
+        &self,
+        rt: &R,
+        first: usize,
+        count: usize,
+    ) -> Result<(), AllocError> {
         match self.added.push(rt, Added { first, count }) {
             Ok(_) => Ok(()),
             Err(_) => Err(AllocError),

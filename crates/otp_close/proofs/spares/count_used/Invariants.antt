@@ -8,5 +8,5 @@ invariant-loop g l =
     record {
       unused : All IsUnused (drop l.count l.tables);
       few : l.count ≤ length l.tables;
-      many : l.count + l.index ≡ length l.tables + l.known;
+      many : l.count + l.counter ≡ length l.tables + l.known;
     }

@@ -6,6 +6,6 @@ use Rattle.otp_open.proofs.spares.padded.Given as goal
 abbrev pub invariant-loop : goal.invariant-loop
 invariant-loop g l =
     record {
-      padded : ArePadded (length l.fn.plans.items + l.index) l.fn.plans.items l.all.items;
+      padded : ArePadded (length l.fn.plans.items + l.counter) l.fn.plans.items l.all.items;
       room : length l.fn.plans.items + l.fn.spares ≤ vec_capacity l.all;
     }

@@ -7,4 +7,4 @@ abbrev pub ghosts-clients_in-N-InboxNaming : goal.ghosts-clients_in-N-InboxNamin
 ghosts-clients_in-N-InboxNaming g a = record { inbox = λ number. a.inbox }
 
 abbrev pub ghosts-clients_in-N-PlanNaming : goal.ghosts-clients_in-N-PlanNaming
-ghosts-clients_in-N-PlanNaming g a = record { plan = λ number. a.supervisor }
+ghosts-clients_in-N-PlanNaming g a = record { plan = λ number. Some a.supervisor }

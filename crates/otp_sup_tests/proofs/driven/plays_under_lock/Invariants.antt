@@ -7,4 +7,4 @@ abbrev pub ghosts-play_under_lock-N-InboxNaming : goal.ghosts-play_under_lock-N-
 ghosts-play_under_lock-N-InboxNaming g a = record { inbox = λ number. a.inbox }
 
 abbrev pub ghosts-play_under_lock-N-PlanNaming : goal.ghosts-play_under_lock-N-PlanNaming
-ghosts-play_under_lock-N-PlanNaming g a = record { plan = λ number. a.supervisor }
+ghosts-play_under_lock-N-PlanNaming g a = record { plan = λ number. Some a.supervisor }

@@ -7,4 +7,4 @@ abbrev pub ghosts-play_in-N-InboxNaming : goal.ghosts-play_in-N-InboxNaming
 ghosts-play_in-N-InboxNaming g a = record { inbox = λ number. a.inbox }
 
 abbrev pub ghosts-play_in-N-PlanNaming : goal.ghosts-play_in-N-PlanNaming
-ghosts-play_in-N-PlanNaming g a = record { plan = λ number. a.supervisor }
+ghosts-play_in-N-PlanNaming g a = record { plan = λ number. Some a.supervisor }
