@@ -1,3 +1,4 @@
+use Rattle.std.specs.Prelude.{Some}
 use Rattle.otp_sup_tests.proofs.clients.two_clients_and_a_hand.Given as goal
 
 abbrev pub ghosts-clients_in-N-WordsNaming : goal.ghosts-clients_in-N-WordsNaming

@@ -1,3 +1,4 @@
+use Rattle.std.specs.Prelude.{Some}
 use Rattle.otp_sup_tests.proofs.driven.plays_under_lock.Given as goal
 
 abbrev pub ghosts-play_under_lock-N-WordsNaming : goal.ghosts-play_under_lock-N-WordsNaming

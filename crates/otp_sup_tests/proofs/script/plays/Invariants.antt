@@ -1,3 +1,4 @@
+use Rattle.std.specs.Prelude.{Some}
 use Rattle.otp_sup_tests.proofs.script.plays.Given as goal
 
 abbrev pub ghosts-play_in-N-WordsNaming : goal.ghosts-play_in-N-WordsNaming
