@@ -8,8 +8,8 @@ use Rattle.otp_bodies.specs.declared.bodies.Origin.TheVariants as origin
 use Rattle.otp_bodies.specs.declared.bodies.Place.TheVariants as place
 use Rattle.otp_bodies.proofs.Once.{count_put}
 
-pub handed_more : (n : ℕ) → handed_in n ++ record { origin = origin.Spec n; place = place.Free } ∷ [] ≡ handed_in (n + 1)
-handed_more n = let e : suc n ≡ n + 1 = omega arith in ap handed_in e
+pub handed_more : (n : ℕ) → handed_in (n + 1) ≡ handed_in n ++ record { origin = origin.Spec n; place = place.Free } ∷ []
+handed_more n = let e : n + 1 ≡ suc n = omega arith in ap handed_in e
 
 -- none of them is that of a later specification
 pub none_later : (k n : ℕ) → n ≤ k → count_given k (handed_in n) ≡ 0

@@ -215,6 +215,7 @@ impl<N: WordsNaming> Office<N> {
     }
 
     /// Whether no event has happened.
+    #[tactic(auto, using(crate::proofs::Anew::nothing_happened))]
     pub fn is_unused(&self) -> bool
         ensures { IsTrue result → self.now.core.history ≡ [] }
     {
