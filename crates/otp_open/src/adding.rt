@@ -137,7 +137,7 @@ pub fn are_unused<N: WordsNaming + InboxNaming + PlanNaming, J: Drop, S: Drop, R
     count: usize,
 ) -> bool {
     for offset in 0..count {
-        let Some(sup) = shared.sups.get(first.saturating_add(offset)) else {
+        let Some(sup) = sup_at(shared, first.saturating_add(offset)) else {
             return false;
         };
         if !sup.is_unused(rt) {
@@ -145,6 +145,16 @@ pub fn are_unused<N: WordsNaming + InboxNaming + PlanNaming, J: Drop, S: Drop, R
         }
     }
     true
+}
+
+/// The place with this number.
+fn sup_at<N: WordsNaming + InboxNaming + PlanNaming, J: Drop, S: Drop>(
+    shared: &Shared<N, J, S>,
+    table: usize,
+) -> Option<&Sup<N, Body<J, S>>>
+    ensures { IfSome result (λ sup. sup.now.inbox ≡ table) }
+{
+    shared.sups.get(table)
 }
 
 /// Gives places their supervisors, from the place with this number on, which no plan had when the name was picked. Takes no memory.
@@ -168,7 +178,7 @@ pub fn plan_all<N: WordsNaming + InboxNaming + PlanNaming, J: Drop, S: Drop, R: 
     let mut are_all = true;
     for plan in plans {
         let space = next_of(&mut spaces);
-        let Some(sup) = shared.sups.get(number) else {
+        let Some(sup) = sup_at(shared, number) else {
             drop(plan);
             drop(space);
             return false;

@@ -1,5 +1,5 @@
-use Rattle.std.proofs.Common.{◌≡◌, ◌++◌, ◌∷◌, [], ◌∙◌, ap, arith, subst, sym, take}
-use Rattle.std.specs.Prelude.{All}
+use Rattle.std.proofs.Common.{◌≡◌, ◌++◌, ◌∷◌, [], ◌∙◌, ap, arith, rules, subst, sym, take}
+use Rattle.std.specs.Prelude.{All, IsTrue}
 use Rattle.std.proofs.lemmas.List.{take_all, take_more}
 use Rattle.std.proofs.lemmas.List.Elements.{All-push}
 use Rattle.otp_draft.specs.Plans.{IsNear}
@@ -11,7 +11,8 @@ loop-place-preserved g c =
     let n = c.loop-place.place in
     let b = c.index-bodies-place.result in
     let more = take_more bodies n b (omega (arith, c.loop-place-test.true)) ∙ ap (λ x. take n bodies ++ x ∷ []) (sym c.index-bodies-place.is) in
-    subst (λ l. All IsNear l) (sym more) (All-push IsNear (take n bodies) b c.loop-place.invariant (c.is_within.ensures.near c.if-not-is_within.false))
+    let within : IsTrue c.is_within.result = search rules in
+    subst (λ l. All IsNear l) (sym more) (All-push IsNear (take n bodies) b c.loop-place.invariant (c.is_within.ensures.near within))
 
 pub returns : goal.returns
 returns g c = λ _. subst (λ l. All IsNear l) (take_all c.loop-place.place c.args.bodies.now (omega (arith, c.loop-place-test.false))) c.loop-place.invariant

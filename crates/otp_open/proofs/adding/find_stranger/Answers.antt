@@ -1,5 +1,5 @@
-use Rattle.std.proofs.Common.{◌≡◌, arith, length, refl, subst, sym}
-use Rattle.std.specs.Prelude.{All}
+use Rattle.std.proofs.Common.{◌≡◌, arith, length, refl, rules, subst}
+use Rattle.std.specs.Prelude.{All, IsTrue}
 use Rattle.std.proofs.lemmas.Option.{slice_get_read}
 use Rattle.otp_draft.specs.Plans.{IsNear}
 use Rattle.otp_open.proofs.EachOpened.{all_so_far, one_more}
@@ -10,8 +10,8 @@ loop-place-preserved g c =
     let plans = c.args.plans.now in
     let n = c.loop-place.place in
     let at = slice_get_read plans (length plans) n c.index-plans-place.result refl (omega (arith, c.loop-place-test.true)) c.index-plans-place.is in
-    one_more (λ plan. All IsNear plan.bodies.items) plans n c.index-plans-place.result c.loop-place.invariant at
-    (subst (λ l. All IsNear l) c.as_slice.ensures.value (c.are_within.ensures c.if-not-are_within.false))
+    let within : IsTrue c.are_within.result = search rules in
+    one_more (λ plan. All IsNear plan.bodies.items) plans n c.index-plans-place.result c.loop-place.invariant at (subst (λ l. All IsNear l) c.as_slice.ensures.value (c.are_within.ensures within))
 
 pub returns : goal.returns
 returns g c =

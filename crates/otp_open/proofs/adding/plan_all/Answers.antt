@@ -16,6 +16,20 @@ next_of-space-requires g c =
     let some : 0 < length c.loop-plan.spaces.rest.items = some_space _ _ c.loop-plan.spaces.rest.items (subst (λ l. Fit l c.loop-plan.spaces.rest.items) next i.fit) in
     omega (arith, left, some)
 
+pub plan_one-requires-clause-plan : goal.plan_one-requires-clause-plan
+plan_one-requires-clause-plan g c =
+    let names = g.N.PlanNaming.plan in
+    let none = ap names (c.in-Some-sup_at.ensures {u = tt}) ∙ c.requires.free c.loop-plan.number c.loop-plan.invariant.from_first in
+    subst (λ (p : Option Supervisor). IsPlanned p c.in-Some.plan.supervisor) (sym none) tt
+
+pub plan_one-requires-clause-few : goal.plan_one-requires-clause-few
+plan_one-requires-clause-few g c =
+    let shorter = ap length (c.in-Some.ensures {u = tt}).steps.0 in
+    let count = c.loop-plan.invariant.count in
+    let from_first = c.loop-plan.invariant.from_first in
+    let few = c.requires.few in
+    omega (arith, shorter, count, from_first, few)
+
 pub plan_one-requires-clause-bodies : goal.plan_one-requires-clause-bodies
 plan_one-requires-clause-bodies g c = of_next HasBodies _ _ _ (c.in-Some.ensures {u = tt}).steps.0 c.loop-plan.invariant.bodies
 
