@@ -1,9 +1,15 @@
 -- What is so of all places of a tree is so of those that had a supervisor.
-use Rattle.std.proofs.Common.{◌≡◌, ℕ, zero, suc, ◌+◌, ◌<◌, ◌≤◌, List, [], ◌∷◌, ◌++◌, ap, arith, drop, get_or, length, refl, subst, sym, take, ◌∙◌}
-use Rattle.std.specs.Prelude.{All, sum_by}
-use Rattle.std.proofs.lemmas.List.{get_or-take, length-take-le, take-append-drop}
+use Rattle.std.proofs.Common.{◌≡◌, ℕ, zero, suc, ◌+◌, ◌<◌, ◌≤◌, List, Option, Some, None, Bool, true, false, [], ◌∷◌, ◌++◌, ap, arith, get_or, length, refl, subst, sym, take, ◌∙◌}
+use Rattle.std.specs.Prelude.{All, IfSome, slice_get, sum_by}
+use Rattle.std.proofs.Math.Arith.{lt_of_le-ne}
+use Rattle.std.proofs.Math.Dec.{eqb}
+use Rattle.std.proofs.lemmas.Bool.{eqb-false, eqb-true}
+use Rattle.std.proofs.lemmas.List.{get_or-take, length-take-le}
 use Rattle.std.proofs.lemmas.List.Elements.{All-take}
-use Rattle.std.proofs.lemmas.List.Sums.{sum_by-append, sum_by-cons}
+use Rattle.std.proofs.lemmas.List.Sums.{sum_by-cons}
+use Rattle.std.proofs.lemmas.Option.{slice_get_within}
+use Rattle.otp_core.specs.View.{View, stored_of}
+use Rattle.otp_office.proofs.Anew.{nothing_happened}
 use Rattle.otp_hand.specs.Ended.{ends_in}
 use Rattle.otp_office.specs.Events.{items_of}
 use Rattle.otp_report.specs.declared.report.Report.{Report}
@@ -14,8 +20,28 @@ use Rattle.otp_rules.specs.declared.event.Item.{Item}
 use Rattle.otp_run.specs.Lists.{AllAt}
 use Rattle.otp_signals.specs.Lists.{NoneInBoth}
 use Rattle.otp_close.specs.Closes.{AreApart, AreCounted}
-use Rattle.otp_close.specs.Spares.{AreFirst, IsUnused}
+use Rattle.otp_close.specs.Spares.{AreFirst, AreUnusedFrom, IsUnused}
 use Rattle.otp_close.specs.Totals.{HasAllEnds, HasAllStarts, ends_of, starts_of, unsent_of}
+
+-- where nothing was cut off and nothing is stored there was no event
+pub no_event : (core : View) → core.cut ≡ 0 → length (stored_of core) ≡ 0 → core.history ≡ []
+no_event core uncut none = nothing_happened core uncut none
+
+-- one more that is unused, and all
+pub one_more_unused : (ts : List TableReport) (from n : ℕ) (t : TableReport) → ((k : ℕ) → from ≤ k → k < n → IfSome (slice_get ts k) IsUnused) → slice_get ts n ≡ Some t → IsUnused t
+    → (k : ℕ) → from ≤ k → k < n + 1 → IfSome (slice_get ts k) IsUnused
+one_more_unused ts from n t so_far at unused k behind less = by (eqb k n) refl
+  where
+    by : (b : Bool) → eqb k n ≡ b → IfSome (slice_get ts k) IsUnused
+    by true is = subst (λ (m : ℕ). IfSome (slice_get ts m) IsUnused) (sym (eqb-true k n is)) (subst (λ (o : Option TableReport). IfSome o IsUnused) (sym at) unused)
+    by false is = so_far k behind (lt_of_le-ne (omega (arith, less)) (eqb-false k n is))
+
+pub all_unused : (ts : List TableReport) (from n : ℕ) → ((k : ℕ) → from ≤ k → k < n → IfSome (slice_get ts k) IsUnused) → length ts ≤ n → AreUnusedFrom from ts
+all_unused ts from n so_far long k behind = by (slice_get ts k) refl
+  where
+    by : (o : Option TableReport) → slice_get ts k ≡ o → IfSome o IsUnused
+    by (Some t) is = let within = slice_get_within ts k t is in subst (λ (o : Option TableReport). IfSome o IsUnused) is (so_far k behind (omega (arith, within, long)))
+    by None is = tt
 
 taken_at : {A : Type 0} (P : ℕ → A → Type 0) (n : ℕ) (xs : List A) → AllAt P xs → AllAt P (take n xs)
 taken_at P zero xs all k = tt
@@ -45,21 +71,27 @@ first_apart known all first f each = subst AreApart (sym f.are) taken
         subst (λ a. Apart a (get_or (take n all) j d)) (sym (get_or-take n all i d at_i))
         (subst (λ b. Apart (get_or all i d) b) (sym (get_or-take n all j d at_j)) (each i j d before (omega (arith, at_j, few))))
 
-none_of : (f : TableReport → ℕ) → ((t : TableReport) → IsUnused t → f t ≡ 0) → (ts : List TableReport) → All IsUnused ts → sum_by f ts ≡ 0
+-- nothing is the sum of what unused places have none of
+none_of : (f : TableReport → ℕ) → ((t : TableReport) → IsUnused t → f t ≡ 0) → (ts : List TableReport) → AllAt (λ _ t. IsUnused t) ts → sum_by f ts ≡ 0
 none_of f none [] unused = refl
 none_of f none (t ∷ ts) unused =
     let all = sum_by-cons f t ts in
-    let first = none t (unused 0 t (omega arith)) in
-    let rest = none_of f none ts (λ k d within. unused (suc k) d (omega (arith, within))) in
+    let first = none t (unused 0) in
+    let rest = none_of f none ts (λ k. unused (suc k)) in
     omega (arith, all, first, rest)
 
--- what an unused place has none of adds up to the same
+-- so the first ones have the same sum as all
+taken_sum : (f : TableReport → ℕ) → ((t : TableReport) → IsUnused t → f t ≡ 0) → (n : ℕ) (ts : List TableReport) → AreUnusedFrom n ts → sum_by f (take n ts) ≡ sum_by f ts
+taken_sum f none zero ts unused = sym (none_of f none ts (λ k. unused k (omega arith)))
+taken_sum f none (suc n) [] unused = refl
+taken_sum f none (suc n) (t ∷ ts) unused =
+    let all = sum_by-cons f t ts in
+    let some = sum_by-cons f t (take n ts) in
+    let rest = taken_sum f none n ts (λ k from. unused (suc k) (omega (arith, from))) in
+    omega (arith, all, some, rest)
+
 first_sum : (f : TableReport → ℕ) → ((t : TableReport) → IsUnused t → f t ≡ 0) → (known : ℕ) (all first : List TableReport) → AreFirst known all first → sum_by f first ≡ sum_by f all
-first_sum f none known all first is =
-    let parts = ap (sum_by f) (sym (take-append-drop is.count all)) ∙ sum_by-append f (take is.count all) (drop is.count all) in
-    let rest = none_of f none (drop is.count all) is.unused in
-    let same = ap (sum_by f) is.are in
-    omega (arith, parts, rest, same)
+first_sum f none known all first is = ap (sum_by f) is.are ∙ taken_sum f none is.count all is.unused
 
 unused_starts : (t : TableReport) → IsUnused t → starts_of t ≡ 0
 unused_starts t u = ap (λ (l : List Event). length (numbers_of l)) u.history

@@ -1,33 +1,49 @@
 //! Places of a tree that had no supervisor are left out of its report.
-ghost use Rattle.std.specs.Prelude.{◌≡◌, ◌≤◌, All, IsTrue, drop, length, min};
-ghost use Rattle.otp_close.specs.Spares.{AreFirst, IsUnused};
+ghost use Rattle.std.specs.Prelude.{◌≡◌, ◌≤◌, [], IsTrue, length, min};
+ghost use Rattle.otp_close.specs.Spares.{AreFirst, AreUnusedFrom, IsUnused};
 
+use otp_core::Core;
 use otp_report::{Report, TableReport};
+
+/// Whether it had no event.
+#[tactic(auto, using(crate::proofs::Spares::no_event))]
+fn had_no_event(core: &Core) -> bool
+    ensures { IsTrue result → core.now.history ≡ [] }
+{
+    core.events_cut() == 0 && core.history().len() == 0
+}
 
 /// Whether it had no event, nothing is left for it, and it had nothing to send.
 fn is_unused(table: &TableReport) -> bool
     ensures { IsTrue result → IsUnused table.now }
 {
-    table.core.events_cut() == 0
-        && table.core.history().len() == 0
-        && table.left.is_empty()
-        && table.unsent == 0
+    had_no_event(&table.core) && table.left.is_empty() && table.unsent == 0
+}
+
+/// Whether all are unused from this place on.
+fn are_unused(tables: &[TableReport], from: usize) -> bool
+    ensures { IsTrue result → AreUnusedFrom from tables.now }
+{
+    for place in from..tables.len() {
+        if !is_unused(&tables[place]) {
+            return false;
+        }
+    }
+    true
 }
 
 /// How many there are without the unused behind the first so many.
 fn count_used(tables: &[TableReport], known: usize) -> usize
     ensures few { result ≤ length tables.now }
     ensures many { min known (length tables.now) ≤ result }
-    ensures unused { All IsUnused (drop result tables.now) }
+    ensures unused { AreUnusedFrom result tables.now }
 {
-    let mut count = tables.len();
-    for _ in known..tables.len() {
-        if !is_unused(&tables[count - 1]) {
+    for count in known..tables.len() {
+        if are_unused(tables, count) {
             return count;
         }
-        count -= 1;
     }
-    count
+    tables.len()
 }
 
 /// The report of a tree that had so many supervisors: places behind them that had none are left out.
