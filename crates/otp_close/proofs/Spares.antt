@@ -1,9 +1,10 @@
 -- What is so of all places of a tree is so of those that had a supervisor.
-use Rattle.std.proofs.Common.{◌≡◌, ℕ, zero, suc, ◌+◌, ◌<◌, ◌≤◌, List, Option, Some, None, Bool, true, false, [], ◌∷◌, ◌++◌, ap, arith, get_or, length, refl, subst, sym, take, ◌∙◌}
-use Rattle.std.specs.Prelude.{All, IfSome, slice_get, sum_by}
+use Rattle.std.proofs.Common.{◌≡◌, ℕ, zero, suc, ◌+◌, ◌<◌, ◌≤◌, List, Option, Some, None, Bool, true, false, [], ◌∷◌, ◌++◌, ap, arith, get_or, length, refl, subst, sym, take, ◌∙◌, ⊎_elim}
+use Rattle.std.specs.Prelude.{All, IfSome, is_some, slice_get, sum_by}
 use Rattle.std.proofs.Math.Arith.{lt_of_le-ne}
 use Rattle.std.proofs.Math.Dec.{eqb}
-use Rattle.std.proofs.lemmas.Bool.{eqb-false, eqb-true}
+use Rattle.std.proofs.lemmas.Bool.{eqb-false, eqb-true, false≢true}
+use Rattle.std.proofs.lemmas.Bool.Decides.{leb_tells}
 use Rattle.std.proofs.lemmas.List.{get_or-take, length-take-le}
 use Rattle.std.proofs.lemmas.List.Elements.{All-take}
 use Rattle.std.proofs.lemmas.List.Sums.{sum_by-cons}
@@ -19,7 +20,9 @@ use Rattle.otp_rules.specs.declared.event.Event.{Event}
 use Rattle.otp_rules.specs.declared.event.Item.{Item}
 use Rattle.otp_run.specs.Lists.{AllAt}
 use Rattle.otp_signals.specs.Lists.{NoneInBoth}
-use Rattle.otp_close.specs.Closes.{AreApart, AreCounted}
+use Rattle.otp_spec.specs.Supervisor.{Supervisor}
+use Rattle.otp_sup.specs.Plans.{AreAllPlanned}
+use Rattle.otp_close.specs.Closes.{AreApart, HasTables, IsFreeFrom}
 use Rattle.otp_close.specs.Spares.{AreFirst, AreUnusedFrom, IsUnused}
 use Rattle.otp_close.specs.Totals.{HasAllEnds, HasAllStarts, ends_of, starts_of, unsent_of}
 
@@ -102,12 +105,26 @@ unused_unsent t u = u.unsent
 unused_ends : (t : TableReport) → IsUnused t → ends_of t ≡ 0
 unused_ends t u = ap (λ (l : List Event). ends_in (items_of l ++ t.left.items)) u.history ∙ ap (λ (l : List Item). ends_in l) u.left
 
-pub first_counted : (known places : ℕ) (all first : List TableReport) → AreFirst known all first → length all ≡ places → AreCounted known places (length first)
-first_counted known places all first f long =
+-- each place that had a plan is among the first
+pub first_planned : (plans : ℕ → Option Supervisor) (known places : ℕ) (all first : List TableReport) → IsFreeFrom plans places known → AreFirst known all first → length all ≡ places → HasTables plans places (length first)
+first_planned plans known places all first free f long =
     let count = ap length f.are ∙ length-take-le f.count all f.few in
     let few = f.few in
     let many = f.many in
-    record { many = omega (arith, count, many, long); few = omega (arith, count, few, long) }
+    record {
+      few = omega (arith, count, few, long);
+      planned = λ k within is. ⊎_elim
+          (λ h. let behind = h.1 in absurd (false≢true (sym (ap (λ (p : Option Supervisor). is_some p) (free k (omega (arith, count, many, long, behind, within)) within)) ∙ is)))
+          (λ h. h.1)
+          (leb_tells (length first) k);
+    }
+
+-- where all had one, there are as many as places
+pub all_tables : (plans : ℕ → Option Supervisor) (places tables : ℕ) → HasTables plans places tables → AreAllPlanned plans places → tables ≡ places
+all_tables plans places tables h all = ⊎_elim
+    (λ m. let many = m.1 in let few = h.few in omega (arith, many, few))
+    (λ l. let less = h.planned tables l.1 (all tables l.1) in absurd (omega (arith, less)))
+    (leb_tells places tables)
 
 module _ {J S : Type 0} where
   pub first_starts : (known : ℕ) (report later : Report J S) → AreFirst known report.tables.items later.tables.items → later.begun ≡ report.begun → HasAllStarts report → HasAllStarts later

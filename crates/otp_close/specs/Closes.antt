@@ -1,6 +1,6 @@
 -- When all parts of a tree are there, and what it leaves. (own)
 use Rattle.otp_core.specs.View.{stored_of}
-use Rattle.std.specs.Prelude.{◌≡◌, ℕ, ◌+◌, ◌<◌, ◌≤◌, ⊤, List, ◌∷◌, Option, Some, None, Result, Ok, Err, MatchOption, All, AllPairs, length, map, min}
+use Rattle.std.specs.Prelude.{◌≡◌, ℕ, ◌+◌, ◌<◌, ◌≤◌, ⊤, List, ◌∷◌, Option, Some, None, Result, Ok, Err, MatchOption, All, AllPairs, is_some, length, map, true}
 use Rattle.otp_inbox.specs.Tokens.{SenderState, all_parts}
 use Rattle.otp_bodies.specs.declared.letter.Message.{Message}
 use Rattle.otp_rules.specs.Needs.{numbers_of}
@@ -51,10 +51,14 @@ HasBegun t = Begins t.core.base
 abbrev pub HaveBegun : (ℕ → Option Supervisor) → List TableReport → Type 0
 HaveBegun plans tables = AllAt (λ k (t : TableReport). IsBegunBy (plans k) t.core.base) tables
 
--- of so many places so many were known to have a supervisor: a report has as many supervisors, or more where others did something
-pub record AreCounted (known places count : ℕ) : Type 0 where
-  pub many : min known places ≤ count
-  pub few : count ≤ places
+-- none of so many places from this one on had a plan when the tree got its name
+abbrev pub IsFreeFrom : (ℕ → Option Supervisor) → ℕ → ℕ → Type 0
+IsFreeFrom plans places from = (k : ℕ) → from ≤ k → k < places → plans k ≡ None
+
+-- of so many places so many have a supervisor: each that had a plan when the tree got its name has
+pub record HasTables (plans : ℕ → Option Supervisor) (places tables : ℕ) : Type 0 where
+  pub few : tables ≤ places
+  pub planned : (k : ℕ) → k < places → is_some (plans k) ≡ true → k < tables
 
 -- each end of another supervisor that the history was told is for the note's reason, and shown
 abbrev pub HasTold : TableReport → Type 0

@@ -10,7 +10,7 @@ ghost use Rattle.otp_signals.specs.Lists.{AllIn, NoneInBoth};
 ghost use Rattle.otp_close.specs.Totals.{HasAllStarts, starts_of, unsent_of, HasAllEnds, HasHeard, ends_of};
 ghost use Rattle.otp_hand.specs.Begun.{starts_credited};
 ghost use Rattle.otp_hand.specs.Ended.{ends_sent, held_by};
-ghost use Rattle.otp_close.specs.Closes.{AreApart, AreCounted, HasBegun, HasTold, HaveBegun, IsComplete, IsIntact, IsMismatchOnly, IsMissingOnly, IsReached, IsRefusalOf, IsReportOf, NoneMissing, all_senders, kept_in, report_in};
+ghost use Rattle.otp_close.specs.Closes.{AreApart, HasTables, IsFreeFrom, HasBegun, HasTold, HaveBegun, IsComplete, IsIntact, IsMismatchOnly, IsMissingOnly, IsReached, IsRefusalOf, IsReportOf, NoneMissing, all_senders, kept_in, report_in};
 ghost use Rattle.otp_bodies.specs.Messages.{items_in};
 ghost use Rattle.otp_close.specs.Leavings.{AreAccounted, AreInOrder, HasCome, HasUnsent, HaveCome, IsLast, IsLastInOrder, line_of, lists_at};
 ghost use Rattle.otp_close.specs.Tables.{AreOfTables, IsOfTable, shares_at};
@@ -19,7 +19,7 @@ ghost use Rattle.otp_hand.specs.Sendings.{sent_at};
 ghost use Rattle.otp_close.specs.Partings.{schedulers_of};
 ghost use Rattle.otp_close.specs.Settlings.{AreReady, IsLoose, IsReady, held_in, senders_in};
 ghost use Rattle.otp_report.specs.Tellings.{AreSo};
-ghost use Rattle.otp_sup.specs.Plans.{IsBegunBy};
+ghost use Rattle.otp_sup.specs.Plans.{AreAllPlanned, IsBegunBy};
 
 use crate::complete::is_reached;
 use crate::joining::{Joined, join_all};
@@ -89,7 +89,7 @@ pub struct Intact<N: WordsNaming + InboxNaming + PlanNaming + RunNaming, J: Drop
 }
 
 /// Takes the tree apart, and reports what it was, with what is left in each inbox. So many of its places, the first, are known to have
-/// a supervisor.
+/// a supervisor; no other had a plan when the tree got its name, and those that did nothing are left out.
 ///
 /// Of each supervisor stands what [`Table::keeps_rules`](otp_sup::Table::keeps_rules) says; and no process number is a child's in
 /// two supervisors (`apart`), since each one's seat comes home to the client's.
@@ -111,10 +111,11 @@ pub fn close<N: WordsNaming + InboxNaming + PlanNaming + RunNaming, J: Drop, S: 
     client: Client<N, Body<J, S>>,
     known: usize,
 ) -> Result<Report<J, S>, CloseFault<J, S, Intact<N, J, S>>>
+    requires { IsFreeFrom N.plan shared.tables known }
     // All parts were there, if there is a report.
     ensures complete { OnSome (report_in result) (IsComplete shared hands.items client) }
-    // It has all supervisors: of the places behind the known ones those that did nothing, and got nothing, are left out.
-    ensures count { IfSome (report_in result) (λ report. AreCounted known shared.tables (length report.tables.items)) }
+    // It has each supervisor that had a plan when the tree got its name, and others that did something, or got something.
+    ensures count { IfSome (report_in result) (λ report. HasTables N.plan shared.tables (length report.tables.items)) }
     // Each process that a hand put was found or is left, and what is live is what is left and what hands have out.
     ensures live { IfSome (report_in result) (λ report. IsLiveTotal (schedulers_of hands.items) report.live (map ticket_of report.processes.items)) }
     ensures begun { IfSome (report_in result) (λ report. report.begun ≡ sum_by begun_of (schedulers_of hands.items)) }
@@ -179,7 +180,8 @@ pub fn finish<N: WordsNaming + InboxNaming + PlanNaming + RunNaming, J: Drop, S:
     client: Client<N, Body<J, S>>,
     known: usize,
 ) -> Result<Report<J, S>, CloseFault<J, S, ()>>
-    ensures report { shared.tables ≤ known → IfOk result (IsReportOf shared.tables) }
+    requires { IsFreeFrom N.plan shared.tables known }
+    ensures report { AreAllPlanned N.plan shared.tables → IfOk result (IsReportOf shared.tables) }
     ensures plans { IfSome (report_in result) (λ report. HaveBegun N.plan report.tables.items) }
     ensures mismatch { IfErr result IsMismatchOnly }
     // Of a tree that is whole no part is said to be missing.

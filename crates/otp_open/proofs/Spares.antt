@@ -3,9 +3,9 @@ use Rattle.std.proofs.Common.{◌≡◌, ℕ, zero, suc, ◌+◌, ◌<◌, ◌�
 use Rattle.std.specs.Prelude.{IfSome, MatchOption, is_some, slice_get, true}
 use Rattle.otp_run.proofs.Places.{push_at}
 use Rattle.otp_run.specs.Lists.{AllAt}
-use Rattle.otp_sup.specs.Plans.{IsPlanned}
+use Rattle.otp_sup.specs.Plans.{AreAllPlanned, IsPlanned}
 use Rattle.otp_spec.specs.Supervisor.{Supervisor}
-use Rattle.otp_open.specs.Plans.{AreAllPlanned, ArePlanned, HasBodies, HaveBodies, IsOpenFault, Lacks, LacksBody, plans_of}
+use Rattle.otp_open.specs.Plans.{ArePlanned, HasBodies, HaveBodies, IsOpenFault, Lacks, LacksBody, plans_of}
 use Rattle.otp_open.specs.Spares.{ArePadded, IsSpare}
 use Rattle.otp_open.specs.declared.opening.SystemFault.{SystemFault}
 use Rattle.otp_open.specs.declared.opening.SystemFault.TheVariants as fault

@@ -1,5 +1,5 @@
 -- The plans of a tree, by their places in the list, and why none is opened of them. (own)
-use Rattle.std.specs.Prelude.{◌≡◌, ◌<◌, ◌≤◌, ℕ, ⊤, true, List, Option, Some, None, MatchOption, is_some, length, slice_get}
+use Rattle.std.specs.Prelude.{◌≡◌, ◌<◌, ◌≤◌, ℕ, ⊤, List, Option, Some, None, MatchOption, length, slice_get}
 use Rattle.otp_bodies.specs.Bodies.{count_opened}
 use Rattle.otp_run.specs.Lists.{AllAt}
 use Rattle.otp_spec.specs.Supervisor.{Supervisor}
@@ -19,10 +19,6 @@ Suffice bodies plan = count_opened plan.flags plan.specs ≤ bodies
 abbrev pub IsUnready : ℕ → ℕ → Supervisor → SystemFault → Type 0
 IsUnready number bodies plan fault.OutOfMemory = ⊤
 IsUnready number bodies plan (fault.NoBody table) = (table ≡ number) × Lacks bodies plan
-
--- the name has the plan of each of so many supervisors
-abbrev pub AreAllPlanned : (ℕ → Option Supervisor) → ℕ → Type 0
-AreAllPlanned names tables = (k : ℕ) → k < tables → is_some (names k) ≡ true
 
 module _ {J S : Type 0} where
   abbrev pub supervisor_in : Option (TablePlan J S) → Option Supervisor

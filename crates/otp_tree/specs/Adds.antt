@@ -1,8 +1,7 @@
 -- Supervisors that are added to a tree. (own)
-use Rattle.std.specs.Prelude.{◌≡◌, ◌⊎◌, ◌<◌, ◌≤◌, ⊤, ℕ, List, None, Option, is_some, true}
+use Rattle.std.specs.Prelude.{◌≡◌, ◌⊎◌, ⊤, List}
 use Rattle.otp_open.specs.Plans.{IsLackingAt}
 use Rattle.otp_open.specs.declared.plan.TablePlan.{TablePlan}
-use Rattle.otp_spec.specs.Supervisor.{Supervisor}
 use Rattle.otp_tree.specs.declared.adding.AddFault.{AddFault}
 use Rattle.otp_tree.specs.declared.adding.AddFault.TheVariants as fault
 use Rattle.otp_tree.specs.declared.adding.Unadded.{Unadded}
@@ -16,8 +15,3 @@ module _ {J S : Type 0} where
   -- the plans come back, unless a place had a supervisor already
   abbrev pub IsGivenBack : List (TablePlan J S) → Unadded J S → Type 0
   IsGivenBack plans back = (back.fault ≡ fault.Occupied) ⊎ (back.plans.items ≡ plans)
-
--- of so many places so many have a supervisor: each that had a plan when the tree got its name has
-pub record HasTables (plans : ℕ → Option Supervisor) (places tables : ℕ) : Type 0 where
-  pub few : tables ≤ places
-  pub planned : (k : ℕ) → k < places → is_some (plans k) ≡ true → k < tables

@@ -1,6 +1,6 @@
 //! A tree is closed, once all its hands and its client are back.
 ghost use Rattle.std.specs.Prelude.{◌≡◌, ◌+◌, All, IfErr, IfOk, IfSome, OnSome, length, map, sum_by};
-ghost use Rattle.otp_close.specs.Closes.{AreApart, HasBegun, HasTold, HaveBegun, IsComplete, IsMismatchOnly, IsMissingOnly, IsReportOf, NoneMissing, all_senders, kept_in, report_in};
+ghost use Rattle.otp_close.specs.Closes.{AreApart, HasTables, HasBegun, HasTold, HaveBegun, IsComplete, IsMismatchOnly, IsMissingOnly, IsReportOf, NoneMissing, all_senders, kept_in, report_in};
 ghost use Rattle.otp_close.specs.Leavings.{AreAccounted, AreInOrder, HasUnsent, HaveCome, IsLast, IsLastInOrder};
 ghost use Rattle.otp_close.specs.Partings.{schedulers_of};
 ghost use Rattle.otp_close.specs.Tables.{AreOfTables};
@@ -9,8 +9,7 @@ ghost use Rattle.otp_hand.specs.Ended.{held_by};
 ghost use Rattle.otp_report.specs.Tellings.{AreSo};
 ghost use Rattle.otp_run.specs.Gathers.{IsLiveTotal, begun_of, ended_of};
 ghost use Rattle.otp_run.specs.Rule.{ticket_of};
-ghost use Rattle.otp_open.specs.Plans.{AreAllPlanned};
-ghost use Rattle.otp_tree.specs.Adds.{HasTables};
+ghost use Rattle.otp_sup.specs.Plans.{AreAllPlanned};
 ghost use Rattle.otp_tree.specs.Closes.{IsAsItWas};
 
 use crate::growth::Growth;

@@ -1,8 +1,9 @@
 //! The tree: its supervisors, which the hands share.
-ghost use Rattle.std.specs.Prelude.{◌≡◌, ◌↔◌, ◌<◌, ◌≤◌, ℕ, is_some, length, true, IfNone, IfSome, IsTrue, None};
+ghost use Rattle.std.specs.Prelude.{◌≡◌, ◌↔◌, ◌<◌, ◌≤◌, is_some, length, true, IfNone, IfSome, IsTrue};
 ghost use Rattle.otp_signals.specs.Holdings.{after_post};
 ghost use Rattle.otp_signals.specs.Signals.{word_of};
 ghost use Rattle.otp_signals.specs.declared.signal.Signal.TheVariants.{Shutdown};
+ghost use Rattle.otp_close.specs.Closes.{IsFreeFrom};
 ghost use Rattle.otp_hand.specs.Hands.{Heard};
 ghost use Rattle.otp_hand.specs.Readings.{HasRead};
 ghost use Rattle.otp_hand.specs.Standings.{reach_of};
@@ -94,7 +95,7 @@ impl<N: WordsNaming + InboxNaming + PlanNaming, J: Drop, S: Drop> System<N, J, S
 
     /// How many of its places have a supervisor, at least: no other had a plan when the tree got its name.
     pub(crate) fn known<R: Wait>(&self, rt: &R) -> usize
-        ensures { (k : ℕ) → result ≤ k → k < self.now.tables → N.plan k ≡ None }
+        ensures { IsFreeFrom N.plan self.now.tables result }
     {
         match &self.growth {
             None => self.shared.tables(),

@@ -5,7 +5,7 @@ use Rattle.otp_run.specs.Gathers.{IsLiveTotal, begun_of, ended_of}
 use Rattle.otp_run.specs.Rule.{ticket_of}
 use Rattle.otp_close.specs.Totals.{HasAllStarts, HasAllEnds, HasHeard}
 use Rattle.otp_hand.specs.Ended.{held_by}
-use Rattle.otp_close.specs.Closes.{AreApart, AreCounted, HasBegun, HasTold, HaveBegun, IsComplete, IsIntact, all_senders, kept_in}
+use Rattle.otp_close.specs.Closes.{AreApart, HasTables, HasBegun, HasTold, HaveBegun, IsComplete, IsIntact, all_senders, kept_in}
 use Rattle.otp_close.specs.Leavings.{AreAccounted, AreInOrder, HasCome, HasUnsent, HaveCome, IsLast, IsLastInOrder, line_of, lists_to}
 use Rattle.otp_bodies.specs.Messages.{items_in}
 use Rattle.otp_hand.specs.Hands.{SystemView}
@@ -14,7 +14,7 @@ use Rattle.otp_inbox.specs.Lists.{AsOften, EachInOrder}
 use Rattle.otp_sup.specs.Plans.{IsBegunBy}
 use Rattle.otp_close.specs.Partings.{schedulers_of}
 use Rattle.otp_close.specs.Tables.{AreOfTables, IsOfTable, shares_to}
-use Rattle.otp_close.proofs.Spares.{first_all, first_apart, first_at, first_counted, first_ends, first_starts}
+use Rattle.otp_close.proofs.Spares.{first_all, first_apart, first_at, first_ends, first_planned, first_starts}
 use Rattle.otp_close.proofs.Refusals.{refused-report, refused-mismatch, refused-back, refused-missing, reached-by, unreached-missing, reported-missing, reported-back}
 use Rattle.otp_close.proofs.closing.close.Goals as goal
 
@@ -61,7 +61,7 @@ pub returns-in-Err-clause-complete : goal.returns-in-Err-clause-complete
 returns-in-Err-clause-complete g c = refused-report c.in-Err.field-0.cause c.in-Err.field-0.shared c.args.hands.items c.args.client c.refuse-in-Err.result (λ _. IsComplete c.args.shared c.args.hands.items c.args.client) c.refuse-in-Err.ensures
 
 pub returns-in-Err-clause-count : goal.returns-in-Err-clause-count
-returns-in-Err-clause-count g c = refused-report c.in-Err.field-0.cause c.in-Err.field-0.shared c.args.hands.items c.args.client c.refuse-in-Err.result (λ report. AreCounted c.args.known c.args.shared.tables (length report.tables.items)) c.refuse-in-Err.ensures
+returns-in-Err-clause-count g c = refused-report c.in-Err.field-0.cause c.in-Err.field-0.shared c.args.hands.items c.args.client c.refuse-in-Err.result (λ report. HasTables g.N.PlanNaming.plan c.args.shared.tables (length report.tables.items)) c.refuse-in-Err.ensures
 
 pub returns-in-Err-clause-live : goal.returns-in-Err-clause-live
 returns-in-Err-clause-live g c = refused-report c.in-Err.field-0.cause c.in-Err.field-0.shared c.args.hands.items c.args.client c.refuse-in-Err.result (λ report. IsLiveTotal (schedulers_of c.args.hands.items) report.live (map ticket_of report.processes.items)) c.refuse-in-Err.ensures
@@ -120,7 +120,7 @@ pub returns-in-Err-gather_hands-clause-complete : goal.returns-in-Err-gather_han
 returns-in-Err-gather_hands-clause-complete g c = refused-report c.in-Err-gather_hands.field-0.cause c.lock.result c.in-Err-gather_hands.field-0.hands.items c.args.client c.refuse-in-Err-gather_hands.result (λ _. IsComplete c.args.shared c.args.hands.items c.args.client) c.refuse-in-Err-gather_hands.ensures
 
 pub returns-in-Err-gather_hands-clause-count : goal.returns-in-Err-gather_hands-clause-count
-returns-in-Err-gather_hands-clause-count g c = refused-report c.in-Err-gather_hands.field-0.cause c.lock.result c.in-Err-gather_hands.field-0.hands.items c.args.client c.refuse-in-Err-gather_hands.result (λ report. AreCounted c.args.known c.args.shared.tables (length report.tables.items)) c.refuse-in-Err-gather_hands.ensures
+returns-in-Err-gather_hands-clause-count g c = refused-report c.in-Err-gather_hands.field-0.cause c.lock.result c.in-Err-gather_hands.field-0.hands.items c.args.client c.refuse-in-Err-gather_hands.result (λ report. HasTables g.N.PlanNaming.plan c.args.shared.tables (length report.tables.items)) c.refuse-in-Err-gather_hands.ensures
 
 pub returns-in-Err-gather_hands-clause-live : goal.returns-in-Err-gather_hands-clause-live
 returns-in-Err-gather_hands-clause-live g c = refused-report c.in-Err-gather_hands.field-0.cause c.lock.result c.in-Err-gather_hands.field-0.hands.items c.args.client c.refuse-in-Err-gather_hands.result (λ report. IsLiveTotal (schedulers_of c.args.hands.items) report.live (map ticket_of report.processes.items)) c.refuse-in-Err-gather_hands.ensures
@@ -179,7 +179,7 @@ pub returns-then-not-is_reached-clause-complete : goal.returns-then-not-is_reach
 returns-then-not-is_reached-clause-complete g c = refused-report refusal.Missing c.args.shared c.args.hands.items c.args.client c.refuse.result (λ _. IsComplete c.args.shared c.args.hands.items c.args.client) c.refuse.ensures
 
 pub returns-then-not-is_reached-clause-count : goal.returns-then-not-is_reached-clause-count
-returns-then-not-is_reached-clause-count g c = refused-report refusal.Missing c.args.shared c.args.hands.items c.args.client c.refuse.result (λ report. AreCounted c.args.known c.args.shared.tables (length report.tables.items)) c.refuse.ensures
+returns-then-not-is_reached-clause-count g c = refused-report refusal.Missing c.args.shared c.args.hands.items c.args.client c.refuse.result (λ report. HasTables g.N.PlanNaming.plan c.args.shared.tables (length report.tables.items)) c.refuse.ensures
 
 pub returns-then-not-is_reached-clause-live : goal.returns-then-not-is_reached-clause-live
 returns-then-not-is_reached-clause-live g c = refused-report refusal.Missing c.args.shared c.args.hands.items c.args.client c.refuse.result (λ report. IsLiveTotal (schedulers_of c.args.hands.items) report.live (map ticket_of report.processes.items)) c.refuse.ensures
@@ -319,8 +319,8 @@ returns-in-Ok-gather_hands-clause-apart g c =
 pub returns-in-Ok-gather_hands-clause-count : goal.returns-in-Ok-gather_hands-clause-count
 returns-in-Ok-gather_hands-clause-count g c =
     let kept = c.without_spares.ensures in
-    subst (λ o. IfSome o (λ report. AreCounted c.args.known c.args.shared.tables (length report.tables.items))) (sym c.judge.ensures.report)
-    (first_counted c.args.known c.args.shared.tables c.report_of-report.result.tables.items c.without_spares.result.tables.items kept.tables (c.report_of-report.ensures.count ∙ sym (ap (λ (v : SystemView). v.tables) (c.in-Ok.ensures {u = tt}).shared)))
+    subst (λ o. IfSome o (λ report. HasTables g.N.PlanNaming.plan c.args.shared.tables (length report.tables.items))) (sym c.judge.ensures.report)
+    (first_planned g.N.PlanNaming.plan c.args.known c.args.shared.tables c.report_of-report.result.tables.items c.without_spares.result.tables.items c.requires kept.tables (c.report_of-report.ensures.count ∙ sym (ap (λ (v : SystemView). v.tables) (c.in-Ok.ensures {u = tt}).shared)))
 
 pub returns-in-Ok-gather_hands-clause-starts : goal.returns-in-Ok-gather_hands-clause-starts
 returns-in-Ok-gather_hands-clause-starts g c =

@@ -2,7 +2,7 @@ use Rattle.std.proofs.Common.{◌≡◌, ◌∙◌, length, subst, sym}
 use Rattle.otp_close.proofs.Standings.{complete_kept}
 use Rattle.otp_close.specs.Closes.{IsReportOf}
 use Rattle.otp_open.proofs.Spares.{all_planned, each_planned}
-use Rattle.otp_open.specs.Plans.{AreAllPlanned}
+use Rattle.otp_sup.specs.Plans.{AreAllPlanned}
 use Rattle.otp_tree.proofs.whole.run_named.Goals as goal
 
 pub named-requires-clause-plans : goal.named-requires-clause-plans
