@@ -5,6 +5,7 @@ use crate::gates::Still;
 use crate::guests::{Child, Common, Kind, Load, Plan, Worker, again, both, common, one, plan_of};
 use crate::lives::Closed;
 use otp_bridge::BoxedSubsystem;
+use otp_core::ReplyAnswer;
 use otp_inbox::InboxNaming;
 use otp_job::{Body, TableNo};
 use otp_reason::{Name, Reason};
@@ -13,7 +14,8 @@ use otp_run::RunNaming;
 use otp_signals::WordsNaming;
 use otp_spec::{ChildSpec, ChildType, MAX_TABLES, Shutdown};
 use otp_tree::{
-    AddFault, CallRefusal, Client, Hand, NoTable, PlanNaming, Session, System, with_growing_system,
+    AddFault, CallRefusal, Client, Hand, NoTable, PlanNaming, Session, System, Uncalled,
+    with_growing_system,
 };
 use std::alloc::Global;
 use std::process::Abort;
@@ -78,21 +80,23 @@ fn start<N: WordsNaming + InboxNaming + PlanNaming, R: Wait + Abort>(
     top: TableNo,
 ) -> u64 {
     let late = Call::StartChild(supervisor_spec(rt, Shutdown::Milliseconds(5_000)));
-    let body = match system.submit(rt, alloc, client, 0, late, Some(Body::Sup(top))) {
+    let Uncalled { cause, body } = match system.submit(
+        rt,
+        alloc,
+        client,
+        0,
+        late,
+        Some(Body::Sup(top)),
+    ) {
         Ok(_) => panic!(rt; "it has less time than it wants"),
         Err(back) => back,
     };
-    same(
-        rt,
-        "why it was not sent",
-        body.cause,
-        CallRefusal::NotInfinity,
-    );
+    same(rt, "why it was not sent", cause, CallRefusal::NotInfinity);
     let call = Call::StartChild(supervisor_spec(rt, Shutdown::Infinity));
     got(
         rt,
         "the call was not sent",
-        system.submit(rt, alloc, client, 0, call, body.body),
+        system.submit(rt, alloc, client, 0, call, body),
     )
 }
 
@@ -114,7 +118,7 @@ fn is_started<N: WordsNaming + InboxNaming + PlanNaming, R: Wait + Abort>(
 ) {
     let answer = got(rt, MEMORY, system.reply(rt, 0, call));
     match answer {
-        otp_core::ReplyAnswer::Kept(Reply::OkProcess(_)) => {}
+        ReplyAnswer::Kept(Reply::OkProcess(_)) => {}
         _ => panic!(rt; "the supervisor was not started"),
     }
 }
@@ -317,23 +321,27 @@ fn add_many<N: WordsNaming + InboxNaming + PlanNaming, R: Wait + Abort>(
     numbers
 }
 
-// Each number up to that of the last is one of these, and none twice.
-fn are_once(rt: &impl Abort, one: &[usize], other: &[usize]) {
-    let mut is_there = [false; MAX_TABLES];
-    for number in one.iter().chain(other.iter()) {
+// Marks these numbers, none of which is marked yet.
+fn mark(rt: &impl Abort, is_there: &mut [bool], numbers: &[usize]) {
+    for number in numbers {
         let Some(place) = is_there.get_mut(*number) else {
             panic!(rt; "a number that no supervisor has");
         };
         assert!(rt; !*place);
         *place = true;
     }
-    for (number, is_one) in is_there.iter().enumerate() {
-        same(
-            rt,
-            "who has a number",
-            (number, *is_one),
-            (number, number >= 1 && number <= 2 * EACH),
-        );
+}
+
+// Each number from the first on that was added is one of these, and none twice.
+fn are_once(rt: &impl Abort, one: &[usize], other: &[usize]) {
+    let mut is_there = [false; MAX_TABLES];
+    mark(rt, &mut is_there, one);
+    mark(rt, &mut is_there, other);
+    let mut number = 0;
+    for is_one in &is_there {
+        let wanted = number >= 1 && number <= 2 * EACH;
+        same(rt, "who has a number", (number, *is_one), (number, wanted));
+        number = number.saturating_add(1);
     }
 }
 
