@@ -1,5 +1,5 @@
 -- Bodies that were handed in one after the other, for the specifications at their places.
-use Rattle.std.proofs.Common.{◌≡◌, ℕ, zero, suc, ◌+◌, ◌≤◌, List, [], ◌∷◌, ◌++◌, Bool, ap, arith, cond, refl}
+use Rattle.std.proofs.Common.{◌≡◌, ℕ, zero, suc, ◌+◌, ◌≤◌, [], ◌∷◌, ◌++◌, Bool, ap, arith, cond, refl}
 use Rattle.std.specs.Prelude.{◌==◌, false}
 use Rattle.std.proofs.lemmas.Bool.{ne_eqb}
 use Rattle.otp_bodies.specs.Bodies.{count_given, handed_in, is_spec}

@@ -1,6 +1,5 @@
 -- An office whose supervisor had no event gets the core of another one.
-use Rattle.std.proofs.Common.{◌≡◌, ℕ, ◌+◌, ◌≤◌, List, [], ◌∷◌, ap, arith, drop, length, refl, subst, sym, take, ◌∙◌}
-use Rattle.std.specs.Prelude.{All}
+use Rattle.std.proofs.Common.{◌≡◌, ℕ, ◌≤◌, List, [], ◌∷◌, ap, arith, drop, length, refl, subst, sym, take, ◌∙◌}
 use Rattle.std.proofs.Math.Seq.{drop-nil}
 use Rattle.otp_core.specs.View.{View, new_core, stored_of}
 use Rattle.otp_rules.specs.declared.event.Effect.{Effect}
@@ -10,8 +9,10 @@ use Rattle.otp_rules.specs.Run.{orders_of}
 use Rattle.otp_spec.specs.declared.child.ChildSpec.{ChildSpec}
 use Rattle.otp_spec.specs.declared.flags.SupFlags.{SupFlags}
 use Rattle.otp_spec.specs.declared.limits.TheConstants.{MAX_CHILDREN}
-use Rattle.otp_office.specs.Offices.{IsOffice, OfficeView}
-use Rattle.otp_office.specs.Orders.{IsOrdered, orders_along, orders_in}
+use Rattle.otp_office.proofs.Posting.{none_left}
+use Rattle.otp_office.specs.Offices.{IsOffice, OfficeView, sent_of}
+use Rattle.otp_office.specs.Orders.{orders_along, orders_in}
+use Rattle.otp_office.specs.Posts.{ArePosts, words_in}
 
 -- where nothing was cut off and nothing is stored nothing happened
 pub nothing_happened : (core : View) → core.cut ≡ 0 → length (stored_of core) ≡ 0 → core.history ≡ []
@@ -34,7 +35,9 @@ planned_anew old flags specs few none i =
       numbers = i.numbers ∙ ap numbers_of none;
       orders = sym (drop-nil old.sent);
       counted = subst (λ (l : List Effect). old.sent ≤ length l) orders i.counted;
-      posts = subst (λ (l : List Effect). All (λ post. IsOrdered (take (old.sent + 1) l) post.1) old.owner.posts) orders i.posts;
+      posts =
+          let empty : old.outbox ≡ [] = i.orders ∙ ap (λ (l : List Effect). drop old.sent l) orders ∙ drop-nil old.sent in
+          subst (λ (l : List Effect). ArePosts (take old.sent l) [] (words_in old.owner.posts)) orders (none_left (sent_of old) old.outbox [] (words_in old.owner.posts) empty i.posts);
       slots = i.slots;
       fits = i.fits;
     }

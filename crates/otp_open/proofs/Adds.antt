@@ -1,5 +1,5 @@
 -- Supervisors that are added: the memory for their bodies, and the first of those that are left.
-use Rattle.std.proofs.Common.{◌≡◌, ℕ, suc, ◌+◌, ◌<◌, List, [], ◌∷◌, ◌++◌, arith, length, subst}
+use Rattle.std.proofs.Common.{◌≡◌, suc, ◌+◌, ◌<◌, List, [], ◌∷◌, ◌++◌, arith, length, subst}
 use Rattle.otp_bodies.specs.Bodies.{BodiesView}
 use Rattle.otp_run.specs.Lists.{AllAt}
 use Rattle.otp_open.specs.Adds.{Fit, IsSpaceFor}

@@ -1,6 +1,6 @@
 -- Plans with those of spare places behind them.
 use Rattle.std.proofs.Common.{◌≡◌, ℕ, zero, suc, ◌+◌, ◌<◌, ◌≤◌, List, Option, Some, None, [], ◌∷◌, ◌++◌, append-nil, append_assoc, ap, arith, length, length-append, refl, subst, sym, take, ◌∙◌}
-use Rattle.std.specs.Prelude.{IfSome, MatchOption, is_some, slice_get, true}
+use Rattle.std.specs.Prelude.{IfSome, MatchOption, is_some, slice_get}
 use Rattle.otp_run.proofs.Places.{push_at}
 use Rattle.otp_run.specs.Lists.{AllAt}
 use Rattle.otp_sup.specs.Plans.{AreAllPlanned, IsPlanned}

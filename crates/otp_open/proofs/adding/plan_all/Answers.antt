@@ -1,4 +1,4 @@
-use Rattle.std.proofs.Common.{◌≡◌, ◌+◌, ◌<◌, ◌∙◌, length, ap, subst, sym, arith}
+use Rattle.std.proofs.Common.{◌≡◌, ◌+◌, ◌<◌, ◌∙◌, length, ap, subst, arith}
 use Rattle.std.specs.Prelude.{All}
 use Rattle.otp_draft.specs.Plans.{IsNear}
 use Rattle.otp_open.specs.Adds.{Fit}

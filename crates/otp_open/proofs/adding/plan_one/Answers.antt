@@ -1,4 +1,4 @@
-use Rattle.std.proofs.Common.{◌≡◌, List, ap, arith, length, true, ◌∙◌}
+use Rattle.std.proofs.Common.{◌≡◌, List, ap, arith, length, ◌∙◌}
 use Rattle.std.proofs.lemmas.List.{length-map}
 use Rattle.otp_bodies.specs.Bodies.{are_ready, count_opened}
 use Rattle.otp_bodies.specs.declared.bodies.Kept.{Kept}

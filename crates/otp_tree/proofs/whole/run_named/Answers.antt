@@ -1,4 +1,4 @@
-use Rattle.std.proofs.Common.{◌≡◌, ◌∙◌, length, subst, sym}
+use Rattle.std.proofs.Common.{◌≡◌, ◌∙◌, subst, sym}
 use Rattle.otp_close.proofs.Standings.{complete_kept}
 use Rattle.otp_close.specs.Closes.{IsReportOf}
 use Rattle.otp_open.proofs.Spares.{all_planned, each_planned}
