@@ -1,5 +1,5 @@
 -- The paths of a tree's supervisors lead to them in the drawing.
-use Rattle.std.proofs.Common.{◌≡◌, ℕ, zero, suc, ◌+◌, ◌-◌, List, [], ◌∷◌, ◌++◌, Option, Some, None, length, arith, refl, ap, sym, ◌∙◌, append_assoc, length-append, rules}
+use Rattle.std.proofs.Common.{◌≡◌, ℕ, zero, suc, ◌+◌, ◌-◌, List, [], ◌∷◌, ◌++◌, Option, Some, length, arith, refl, ap, sym, ◌∙◌, append_assoc, length-append, rules}
 use Rattle.std.specs.Prelude.{slice_get}
 use Rattle.otp_draft.proofs.Walks.{size-is}
 use Rattle.otp_draft.specs.Drawings.{Drawing, Alone, Worker, Bridge, Above, Template, count, tree_of}

@@ -16,7 +16,11 @@ use crate::seat::Seat;
 use crate::watch::Watch;
 use otp_bridge::Subsystem;
 use otp_hand::TreeNaming;
+use otp_inbox::InboxNaming;
 use otp_job::{Body, Job};
+use otp_run::RunNaming;
+use otp_signals::WordsNaming;
+use otp_sup::PlanNaming;
 use otp_tree::{Client, Hand, MAX_HANDS, Opened, Parts, Report, RunFault, System, TablePlan};
 use std::alloc::Global;
 use std::marker::Brand;
@@ -52,6 +56,7 @@ where
     serve_named::<Brand, R, J, S, W>(rt, alloc, parts, crew)
 }
 
+// Whoever calls this picks the names, which the language allows for the traits alone that have them.
 fn serve_named<N, R, J, S, W>(
     rt: &R,
     alloc: Global,
@@ -59,7 +64,7 @@ fn serve_named<N, R, J, S, W>(
     crew: &Crew<'_, R, W, J, S>,
 ) -> Result<Report<J, S>, RunFault<J, S>>
 where
-    N: TreeNaming + Send + Sync,
+    N: WordsNaming + InboxNaming + PlanNaming + RunNaming + Send + Sync,
     R: Threads + Wait + Clock + Sync,
     J: Job + Send,
     S: Subsystem + Send,

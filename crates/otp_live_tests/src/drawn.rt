@@ -17,6 +17,7 @@ type Draft = TreeDraft<Guest>;
 type Calling = Caller<Guest, BoxedSubsystem>;
 
 // How often a watch was told of a child of the root, of one of the pool, and of the root itself.
+#[derive(Drop)]
 struct Told {
     root: AtomicU64,
     pool: AtomicU64,

@@ -4,12 +4,13 @@ ghost use Rattle.std.specs.Prelude.{◌≡◌, Some};
 use crate::driven::{Driven, make_driven};
 use crate::fixtures::{Post, childless, got, open_parts, same};
 use otp_core::{History, ReplyAnswer};
-use otp_inbox::{Sender, UnnamedInbox};
+use otp_inbox::{InboxNaming, Sender, UnnamedInbox};
 use otp_rules::{Call, CountsNow, Item, Kind, Reply};
-use otp_signals::{OpenWords, Signal, Words};
+use otp_signals::{OpenWords, Signal, Words, WordsNaming};
 use otp_spec::SupSpec;
 use otp_sup::{
-    Client, MemoryPort, Message, SplitFault, SubmitCause, Sup, SupNaming, TurnAnswer, TurnFault,
+    Client, MemoryPort, Message, PlanNaming, SplitFault, SubmitCause, Sup, SupNaming, TurnAnswer,
+    TurnFault,
 };
 use std::alloc::Global;
 use std::marker::Brand;
@@ -28,13 +29,11 @@ fn two_clients_and_a_hand(rt: HostRuntime) {
     clients_in::<Brand, _>(&rt, rt.alloc(), words, inbox, supervisor);
 }
 
-fn clients_in<N: SupNaming + Send + Sync, R: Threads + Wait + Abort + Sync>(
-    rt: &R,
-    alloc: Global,
-    words: OpenWords,
-    inbox: UnnamedInbox<Message, Post>,
-    supervisor: SupSpec,
-)
+// Whoever calls this picks the names, which the language allows for the traits alone that have them.
+fn clients_in<
+    N: WordsNaming + InboxNaming + PlanNaming + Send + Sync,
+    R: Threads + Wait + Abort + Sync,
+>(rt: &R, alloc: Global, words: OpenWords, inbox: UnnamedInbox<Message, Post>, supervisor: SupSpec)
     requires words { words.words ≡ N.words }
     requires slots { words.slots ≡ 256 }
     requires inbox { inbox ≡ N.inbox 0 }

@@ -7,13 +7,14 @@ ghost use Rattle.std.specs.Prelude.{◌≡◌, ◌≤◌, ◌^◌, Some};
 use crate::fixtures::{Post, got, hand_in_all, has_told_end, open_parts, same, seat_table, second};
 use crate::script::{Known, Stand, Step, known_of, play};
 use otp_core::ReplyAnswer;
-use otp_inbox::{Sender, UnnamedInbox};
+use otp_inbox::{InboxNaming, Sender, UnnamedInbox};
 use otp_reason::Note;
 use otp_rules::Call;
-use otp_signals::{OpenWords, Signal, Viewer, Words};
+use otp_signals::{OpenWords, Signal, Viewer, Words, WordsNaming};
 use otp_spec::SupSpec;
 use otp_sup::{
-    Client, MemoryPort, Message, NewProcess, SubmitCause, Sup, SupNaming, TurnAnswer, TurnFault,
+    Client, MemoryPort, Message, NewProcess, PlanNaming, SubmitCause, Sup, SupNaming, TurnAnswer,
+    TurnFault,
 };
 use std::alloc::Global;
 use std::marker::Brand;
@@ -239,7 +240,8 @@ impl<N: SupNaming> Stand for Driven<N> {
     }
 }
 
-fn play_under_lock<N: SupNaming, R: Wait + Abort>(
+// Whoever calls this picks the names, which the language allows for the traits alone that have them.
+fn play_under_lock<N: WordsNaming + InboxNaming + PlanNaming, R: Wait + Abort>(
     rt: &R,
     alloc: Global,
     words: OpenWords,

@@ -8,12 +8,12 @@ ghost use Rattle.otp_rules.specs.Homes.{is_start_call};
 use crate::alone::{Alone, make_table};
 use crate::fixtures::{Post, child, crash, got, open_parts, same, second};
 use otp_core::ReplyAnswer;
-use otp_inbox::UnnamedInbox;
+use otp_inbox::{InboxNaming, UnnamedInbox};
 use otp_reason::{Note, Reason};
 use otp_rules::{Call, CallFault, Reply};
-use otp_signals::{OpenWords, Signal};
+use otp_signals::{OpenWords, Signal, WordsNaming};
 use otp_spec::{MAX_EVENTS, MAX_READING, SupSpec};
-use otp_sup::{CutAnswer, Letter, Message, SupNaming, TurnAnswer, TurnFault};
+use otp_sup::{CutAnswer, Letter, Message, PlanNaming, SupNaming, TurnAnswer, TurnFault};
 use std::alloc::Global;
 use std::marker::Brand;
 use std::process::Abort;
@@ -306,7 +306,8 @@ fn stores<N: SupNaming, R: Abort>(rt: &R, one: Alone<N>, events: usize) {
     drop(core);
 }
 
-fn play_in<N: SupNaming, R: Wait + Abort>(
+// Whoever calls this picks the names, which the language allows for the traits alone that have them.
+fn play_in<N: WordsNaming + InboxNaming + PlanNaming, R: Wait + Abort>(
     rt: &R,
     alloc: Global,
     words: OpenWords,

@@ -5,11 +5,11 @@ use crate::alone::make_table;
 use crate::fixtures::{OWN, Post, got, of_one_child, open_parts, same};
 use crate::script::{Known, Sent, Step, play, plays};
 use otp_counts::CountsPass;
-use otp_inbox::UnnamedInbox;
+use otp_inbox::{InboxNaming, UnnamedInbox};
 use otp_reason::{Note, Reason};
-use otp_signals::{OpenWords, Signal};
+use otp_signals::{OpenWords, Signal, WordsNaming};
 use otp_spec::SupSpec;
-use otp_sup::{Message, SupNaming, TurnAnswer, TurnFault};
+use otp_sup::{Message, PlanNaming, TurnAnswer, TurnFault};
 use std::alloc::Global;
 use std::marker::Brand;
 use std::process::Abort;
@@ -116,8 +116,8 @@ fn reads(rt: &impl Abort, pass: &mut CountsPass, active: u64) {
 }
 
 // A pass reads after the opening, and again after the child is up. One that was split off then reads in another thread what was
-// published before it was made.
-fn read_beside<N: SupNaming, R: Threads + Wait + Abort>(
+// published before it was made. Whoever calls this picks the names, which the language allows for the traits alone that have them.
+fn read_beside<N: WordsNaming + InboxNaming + PlanNaming, R: Threads + Wait + Abort>(
     rt: &R,
     alloc: Global,
     words: OpenWords,

@@ -17,12 +17,15 @@ use otp_bridge::Subsystem;
 use otp_close::CloseFault;
 use otp_core::ReplyAnswer;
 use otp_hand::{Client, Hand, TreeNaming};
+use otp_inbox::InboxNaming;
 use otp_job::{Body, Job};
 use otp_open::{SystemFault, TablePlan};
 use otp_reason::Note;
 use otp_report::Report;
 use otp_rules::{Call, Reply};
-use otp_sup::SupNaming;
+use otp_run::RunNaming;
+use otp_signals::WordsNaming;
+use otp_sup::{PlanNaming, SupNaming};
 use std::alloc::Global;
 use std::marker::Brand;
 use std::sync::Wait;
@@ -138,6 +141,7 @@ where
     lead_named::<Brand, R, J, S, G, L>(rt, alloc, parts, gate, rounds, leader)
 }
 
+// Whoever calls this picks the names, which the language allows for the traits alone that have them.
 fn lead_named<N, R, J, S, G, L>(
     rt: &R,
     alloc: Global,
@@ -147,7 +151,7 @@ fn lead_named<N, R, J, S, G, L>(
     mut leader: L,
 ) -> Result<Led<J, S, L>, SystemFault>
 where
-    N: TreeNaming + Send + Sync,
+    N: WordsNaming + InboxNaming + PlanNaming + RunNaming + Send + Sync,
     R: Threads + Wait + Sync,
     J: Job + Send,
     S: Subsystem + Send,

@@ -9,8 +9,12 @@ ghost use Rattle.otp_open.specs.Plans.{ArePlanned, HaveBodies, IsOpenFault};
 use crate::opening::{Opened, Parts};
 use crate::system::System;
 use otp_hand::{Client, Hand, TreeNaming};
+use otp_inbox::InboxNaming;
 use otp_job::Body;
 use otp_open::{SystemFault, TablePlan, with_spares};
+use otp_run::RunNaming;
+use otp_signals::WordsNaming;
+use otp_sup::PlanNaming;
 use std::alloc::Global;
 use std::marker::Brand;
 
@@ -51,12 +55,14 @@ pub fn with_system<R, J: Drop, S: Drop, T: Session<R, J, S>>(
     run_named::<Brand, R, J, S, T>(rt, alloc, parts, session)
 }
 
-fn run_named<N: TreeNaming + Send + Sync, R, J: Drop, S: Drop, T: Session<R, J, S>>(
-    rt: &R,
-    alloc: Global,
-    parts: Parts<J, S>,
-    session: T,
-) -> Result<T::Output, SystemFault>
+// Whoever calls this picks the names, which the language allows for the traits alone that have them.
+fn run_named<
+    N: WordsNaming + InboxNaming + PlanNaming + RunNaming + Send + Sync,
+    R,
+    J: Drop,
+    S: Drop,
+    T: Session<R, J, S>,
+>(rt: &R, alloc: Global, parts: Parts<J, S>, session: T) -> Result<T::Output, SystemFault>
     requires words { parts.words.words ≡ N.words }
     requires inboxes { AllAt (λ k id. id ≡ N.inbox k) parts.inboxes.items }
     requires plans { ArePlanned N.plan parts.plans.items }
@@ -120,7 +126,13 @@ pub fn with_growing_system<R, J: Drop, S: Drop, T: Session<R, J, S>>(
     run_growing::<Brand, R, J, S, T>(rt, alloc, parts, opened, session)
 }
 
-fn run_growing<N: TreeNaming + Send + Sync, R, J: Drop, S: Drop, T: Session<R, J, S>>(
+fn run_growing<
+    N: WordsNaming + InboxNaming + PlanNaming + RunNaming + Send + Sync,
+    R,
+    J: Drop,
+    S: Drop,
+    T: Session<R, J, S>,
+>(
     rt: &R,
     alloc: Global,
     parts: Parts<J, S>,

@@ -18,10 +18,14 @@ use otp_close::CloseFault;
 use otp_counts::CountsPass;
 use otp_hand::reading::read_each;
 use otp_hand::{Client, Hand, TreeNaming};
+use otp_inbox::InboxNaming;
 use otp_job::{Body, Job};
 use otp_open::{SystemFault, TablePlan};
 use otp_report::Report;
 use otp_rules::CountsNow;
+use otp_run::RunNaming;
+use otp_signals::WordsNaming;
+use otp_sup::PlanNaming;
 use std::alloc::{AllocError, Global};
 use std::marker::Brand;
 use std::sync::Wait;
@@ -204,6 +208,7 @@ where
     run_named::<Brand, R, J, S, G>(rt, alloc, parts, gate, turns)
 }
 
+// Whoever calls this picks the names, which the language allows for the traits alone that have them.
 fn run_named<N, R, J, S, G>(
     rt: &R,
     alloc: Global,
@@ -212,7 +217,7 @@ fn run_named<N, R, J, S, G>(
     turns: u64,
 ) -> Result<CountedRun<J, S>, RunFault<J, S>>
 where
-    N: TreeNaming + Send + Sync,
+    N: WordsNaming + InboxNaming + PlanNaming + RunNaming + Send + Sync,
     R: Threads + Wait + Sync,
     J: Job + Send,
     S: Subsystem + Send,

@@ -1,5 +1,4 @@
-use Rattle.std.proofs.Common.{Some, None, Ok, Err, Result, Option}
-use Rattle.otp.proofs.Begun.{have_begun, have_begun_in, none_bare}
+use Rattle.otp.proofs.Begun.{have_begun_in, none_bare}
 use Rattle.otp_tree.specs.declared.whole.RunFault.TheVariants as run
 use Rattle.otp.proofs.running.lead.Goals as goal
 
