@@ -135,7 +135,8 @@ pub record KeepsRules (plans : ℕ → Option Supervisor) (t : TableView) : Type
   pub each_body : HaveOneBody t.office t.bodies
   -- the counts that were published last are those of its children (count_children)
   pub counts : EndsWith (counts_of (state_of t.office.core)) t.counts.published
-  -- and all that were published are those before its first event and after each one, in their order, each once
+  -- and all that were published are those before its first event and after each one, in their order, each once; of one that got its
+  -- plan later they come behind what its place counted before
   pub published : AreCounted (plans t.taker.inbox) (counts_along t.office.core.base t.office.core.history) t.counts.published
   -- the ends that it was told came with notes of its history: each is for the note's reason, and shown
   pub told : AreTold (stored_of t.office.core) t.ends_told
