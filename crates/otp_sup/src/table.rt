@@ -119,8 +119,8 @@ impl<N: SupNaming, B: Drop> Table<N, B> {
     /// Besides, the words that it posted are those of the orders that were sent, in their order; a start is posted again where a
     /// port refused it. No two of its children have one slot, or one process. The counts that were published are those of its
     /// children before the first event and after each one; where the name has no plan they come behind what the place counted
-    /// before ([`Table::plan_anew`]). And each end of a supervisor that it was told came with a note of its history, for the note's reason, and is shown. Whoever
-    /// serves it was credited with a start for each one that it sent, and with a turn for each event and each time that its inbox
+    /// before ([`Table::plan_anew`]). And each end of a supervisor that it was told came with a note of its history, for the
+    /// note's reason, and is shown. Whoever serves it was credited with a start for each one that it sent, and with a turn for each event and each time that its inbox
     /// was found empty.
     ///
     /// A checkpoint ([`Table::cut`]) drops the events so far. All of this is still said of the whole history, with the
