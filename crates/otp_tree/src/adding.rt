@@ -61,20 +61,20 @@ impl<N: SupNaming, J: Drop, S: Drop> System<N, J, S> {
         ensures back { IfErr result (IsGivenBack plans.items) }
     {
         if plans.len() > MAX_TABLES {
-            return Err(unadded(AddFault::TooManyTables, plans));
+            return Err(not_added(AddFault::TooManyTables, plans));
         }
         if let Some(table) = find_lacking(plans.as_slice()) {
-            return Err(unadded(AddFault::NoBody { table }, plans));
+            return Err(not_added(AddFault::NoBody { table }, plans));
         }
         if let Some(table) = find_stranger(plans.as_slice()) {
-            return Err(unadded(AddFault::WrongBody { table }, plans));
+            return Err(not_added(AddFault::WrongBody { table }, plans));
         }
         let Ok(spaces) = make_spaces(alloc, plans.as_slice()) else {
-            return Err(unadded(AddFault::OutOfMemory, plans));
+            return Err(not_added(AddFault::OutOfMemory, plans));
         };
         let Some(growth) = &self.growth else {
             drop(spaces);
-            return Err(unadded(AddFault::TooManyTables, plans));
+            return Err(not_added(AddFault::TooManyTables, plans));
         };
         self.add_ready(rt, alloc, growth, plans, spaces)
     }
@@ -102,26 +102,26 @@ impl<N: SupNaming, J: Drop, S: Drop> System<N, J, S> {
         let count = plans.len();
         let Some(first) = desk.first_for(count, self.shared.tables().min(MAX_TABLES)) else {
             drop(spaces);
-            return Err(unadded(AddFault::TooManyTables, plans));
+            return Err(not_added(AddFault::TooManyTables, plans));
         };
         if !are_unused(rt, &self.shared, first, count) {
             drop(spaces);
-            return Err(unadded(AddFault::Occupied, plans));
+            return Err(not_added(AddFault::Occupied, plans));
         }
         if let Err(_) = growth.note(rt, first, count) {
             drop(spaces);
-            return Err(unadded(AddFault::OutOfMemory, plans));
+            return Err(not_added(AddFault::OutOfMemory, plans));
         }
         desk.take(count);
         if plan_all(rt, alloc, &self.shared, first, plans, spaces) {
             Ok(TableNo::new(first))
         } else {
-            Err(unadded(AddFault::Occupied, Vec::new(alloc)))
+            Err(not_added(AddFault::Occupied, Vec::new(alloc)))
         }
     }
 }
 
-fn unadded<J: Drop, S: Drop>(fault: AddFault, plans: Vec<TablePlan<J, S>>) -> Unadded<J, S>
+fn not_added<J: Drop, S: Drop>(fault: AddFault, plans: Vec<TablePlan<J, S>>) -> Unadded<J, S>
     ensures fault { result.fault ≡ fault }
     ensures plans { result.plans ≡ plans }
 {
