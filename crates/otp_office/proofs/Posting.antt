@@ -97,7 +97,7 @@ tried_first o number slot told p h =
 
 -- an order that tells the parent posts nothing
 told_quiet : (own : ℕ) (n : Note) (x : Effect) → sending_of own x ≡ Some (sending.Tell n) → word_ordered x ≡ None
-told_quiet own n (effect.Start id p) is = let no : Some (sending.Start p) ≡ Some (sending.Tell n) = is in cc
+told_quiet own n (effect.Start id p) is = let no : Some (sending.Start id p) ≡ Some (sending.Tell n) = is in cc
 told_quiet own n (effect.Ask id p) is = let no : Some (sending.Ask p) ≡ Some (sending.Tell n) = is in cc
 told_quiet own n (effect.Kill id p) is = let no : Some (sending.Kill p) ≡ Some (sending.Tell n) = is in cc
 told_quiet own n (effect.Reply c) is = refl

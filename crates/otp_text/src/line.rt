@@ -62,23 +62,34 @@ fn read_words(line: &[u8]) -> Option<Line>
 /// What a process tells by this line; `None` for any other line, and for one that has no form.
 ///
 /// It is what [`read_line`] says, in a value a third as large: most lines are notes.
-#[tactic(auto, unfolding(crate::specs::Lines::line_of, crate::specs::Lines::line_of_words, crate::specs::Lines::line_with, crate::specs::Lines::note_with))]
+#[tactic(auto, unfolding(crate::specs::Lines::line_of))]
 pub fn read_note(line: &[u8]) -> Option<Note>
     ensures note { result ≡ note_of (line_of line.now) }
     ensures line { IfSome result (λ note. line_of line.now ≡ Some (said.Note note)) }
 {
-    if line.len() > LONGEST_LINE {
+    if line.is_empty() || line.len() > LONGEST_LINE {
         return None;
     }
+    read_note_words(line)
+}
+
+/// The note of these words.
+#[tactic(auto, unfolding(crate::specs::Lines::line_of_words))]
+fn read_note_words(line: &[u8]) -> Option<Note>
+    ensures note { result ≡ note_of (line_of_words (words_of line.now)) }
+    ensures line { IfSome result (λ note. line_of_words (words_of line.now) ≡ Some (said.Note note)) }
+{
     let (word, rest) = cut(line);
     let verb = Verb::of_word(word)?;
     read_note_with(verb, rest)
 }
 
 /// The note of a verb and the words after it.
-#[tactic(auto, unfolding(crate::specs::Lines::note_with))]
+#[tactic(auto, unfolding(crate::specs::Lines::line_with, crate::specs::Lines::note_with))]
 fn read_note_with(verb: Verb, rest: Option<&[u8]>) -> Option<Note>
-    ensures { result ≡ note_with verb (words_left (option_copied rest.entry)) }
+    ensures with { result ≡ note_with verb (words_left (option_copied rest.entry)) }
+    ensures note { result ≡ note_of (line_with verb (words_left (option_copied rest.entry))) }
+    ensures line { IfSome result (λ note. line_with verb (words_left (option_copied rest.entry)) ≡ Some (said.Note note)) }
 {
     match verb {
         Verb::Up => Some(Note::Up(read_one_number(rest)?)),

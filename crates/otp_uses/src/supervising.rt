@@ -1,7 +1,7 @@
 //! One supervisor, driven by hand. Here its children are no processes at all: each starts when it is ordered to, and ends
 //! when it is asked to. Whoever has real ones carries out the same orders, and gets the same notes from them.
 
-use otp_core::{Core, Counter, MAX_EVENTS};
+use otp_core::{Core, Counter, EventFault, MAX_EVENTS};
 use otp_reason::{Name, Note, Reason, Text};
 use otp_rules::{Effect, Item, Kind};
 use otp_spec::{ChildSpec, Strategy, SupFlags};
@@ -63,7 +63,7 @@ fn drive(alloc: Global, core: &mut Core, first: Kind) -> io::Result<()> {
 }
 
 /// One event, with its memory, and with room for it by a checkpoint where the history is full: so a supervisor lives as long as it
-/// is wanted. A start draws a number. The clock stands still. An error where no number is left.
+/// is wanted. A start draws a number. The clock stands still. An error where no number is left, or no memory.
 fn happen(core: &mut Core, kind: Kind) -> io::Result<()> {
     core.clear_effects();
     let mut numbers = Counter {
@@ -74,6 +74,7 @@ fn happen(core: &mut Core, kind: Kind) -> io::Result<()> {
     }
     match core.happen(MAX_EVENTS, 0, kind, &mut numbers) {
         Ok(_) => Ok(()),
+        Err(EventFault::OutOfMemory) => Err(io::Error::from(AllocError)),
         Err(_) => Err(no_room()),
     }
 }

@@ -1,4 +1,4 @@
-use Rattle.std.proofs.Common.{arith, sym, rules}
+use Rattle.std.proofs.Common.{arith, sym}
 use Rattle.std.proofs.lemmas.Grind.{common_steps}
 use Rattle.otp_text.proofs.Cuts.{one_word, first_cut}
 use Rattle.otp_text.proofs.word.cut.Goals as goal

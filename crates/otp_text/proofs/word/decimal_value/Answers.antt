@@ -1,4 +1,4 @@
-use Rattle.std.proofs.Common.{◌≡◌, ◌+◌, ◌-◌, ◌*◌, take, get_or, arith, refl}
+use Rattle.std.proofs.Common.{◌≡◌, take, arith, refl}
 use Rattle.std.specs.Str.Parse.{digits_value}
 use Rattle.otp_text.proofs.Numbers.{digit_here, number_more, number_fits}
 use Rattle.otp_text.proofs.word.decimal_value.Goals as goal

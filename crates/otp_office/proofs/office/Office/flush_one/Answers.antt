@@ -18,12 +18,12 @@ pub returns-in-Ask-clause-flushed : goal.returns-in-Ask-clause-flushed
 returns-in-Ask-clause-flushed g c =
     let old : OfficeView = c.args.self.now in
     let new : OfficeView = c.advance-in-Ask.new.self in
-    let p = c.post.ensures.posted in
+    let p = c.post-slot-in-Ask.ensures.posted in
     let stepped = c.advance-in-Ask.ensures in
     let taken : Taken = taken_by (g.P.Port.processes c.args.port.now) (g.P.Port.notes c.args.port.now) in
     let S : Sending → Type 0 = λ h. IsSent h old new taken taken in (
       sent_first old _ new c.in-Some.how taken taken (c.in-Some.ensures {u = tt}) (ap (λ (o : OfficeView). o.outbox) p.owner) (ap (λ (o : OfficeView). o.sent) p.owner) (ap (λ (o : OfficeView). o.core) p.owner) (ap (λ (o : OfficeView). o.first_slot) p.owner) stepped
-          (subst S (sym c.in-Ask.is) (record { slot = c.post.result; posted = last_post old _ new c.in-Ask.number c.post.result signal.Shutdown p stepped; took = refl })),
+          (subst S (sym c.in-Ask.is) (record { slot = c.post-slot-in-Ask.result; posted = last_post old _ new c.in-Ask.number c.post-slot-in-Ask.result signal.Shutdown p stepped; took = refl })),
       refl,
     )
 
@@ -31,12 +31,12 @@ pub returns-in-Kill-clause-flushed : goal.returns-in-Kill-clause-flushed
 returns-in-Kill-clause-flushed g c =
     let old : OfficeView = c.args.self.now in
     let new : OfficeView = c.advance-in-Kill.new.self in
-    let p = c.post-in-Kill.ensures.posted in
+    let p = c.post-slot-in-Kill.ensures.posted in
     let stepped = c.advance-in-Kill.ensures in
     let taken : Taken = taken_by (g.P.Port.processes c.args.port.now) (g.P.Port.notes c.args.port.now) in
     let S : Sending → Type 0 = λ h. IsSent h old new taken taken in (
       sent_first old _ new c.in-Some.how taken taken (c.in-Some.ensures {u = tt}) (ap (λ (o : OfficeView). o.outbox) p.owner) (ap (λ (o : OfficeView). o.sent) p.owner) (ap (λ (o : OfficeView). o.core) p.owner) (ap (λ (o : OfficeView). o.first_slot) p.owner) stepped
-          (subst S (sym c.in-Kill.is) (record { slot = c.post-in-Kill.result; posted = last_post old _ new c.in-Kill.number c.post-in-Kill.result signal.Kill p stepped; took = refl })),
+          (subst S (sym c.in-Kill.is) (record { slot = c.post-slot-in-Kill.result; posted = last_post old _ new c.in-Kill.number c.post-slot-in-Kill.result signal.Kill p stepped; took = refl })),
       refl,
     )
 
@@ -56,7 +56,7 @@ returns-in_default-put-clause-flushed g c =
     ap (λ (l : List Launched). taken_by l (g.P.Port.notes c.put.new.self))
     (h.took
     ∙ ap (λ (b : Bool). before.processes ++ put c.starts_again-again.result b ∷ []) has
-    ∙ ap (λ (a : Bool). before.processes ++ put a true ∷ []) c.starts_again-again.ensures)
+    ∙ ap (λ (a : Bool). before.processes ++ put a true ∷ []) (c.starts_again-again.ensures ∙ ap (λ v. starts_again (state_of v.core).follows) c.self.view_is))
     ∙ ap (λ (l : List ToldNote). taken_by (before.processes ++ put is_again true ∷ []) l) h.notes in
     let S : Sending → Type 0 = λ w. IsSent w old new before after in (
       sent_first old _ new c.in-Some.how before after (c.in-Some.ensures {u = tt}) (ap (λ (o : OfficeView). o.outbox) p.owner) (ap (λ (o : OfficeView). o.sent) p.owner) (ap (λ (o : OfficeView). o.core) p.owner) (ap (λ (o : OfficeView). o.first_slot) p.owner) stepped
