@@ -1,5 +1,5 @@
 // Which calls a job gets in which turn.
-ghost use Rattle.std.specs.Prelude.{true};
+ghost use Rattle.std.specs.Prelude.{false, true};
 
 use crate::fixtures::{got, same};
 use crate::probes::{AnyBody, AnyProcess, Pipe, Probe, no_calls, worker_body};

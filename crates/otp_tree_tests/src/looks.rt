@@ -153,7 +153,10 @@ fn a_search_in_vain_is_made_again_in_time(rt: HostRuntime) {
     let mut around = Around::new();
     around.tried_in_vain();
     let mut spared: u64 = 0;
-    while !around.is_worth_a_search(Some(7), 6) && spared < 1_000 {
+    for _ in 0..1_000 {
+        if around.is_worth_a_search(Some(7), 6) {
+            break;
+        }
         spared = spared.saturating_add(1);
     }
     same(&rt, "how many were spared", spared, 256);
