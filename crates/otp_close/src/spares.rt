@@ -6,7 +6,7 @@ use otp_core::Core;
 use otp_report::{Report, TableReport};
 
 /// Whether it had no event.
-#[tactic(auto, using(crate::proofs::Spares::no_event))]
+#[tactic(auto, using(crate::proofs::SparePlaces::no_event))]
 fn had_no_event(core: &Core) -> bool
     ensures { IsTrue result → core.now.history ≡ [] }
 {

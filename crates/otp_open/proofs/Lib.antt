@@ -3,5 +3,5 @@ pub mod Firsts
 pub mod Splits
 pub mod Handed
 pub mod EachOpened
-pub mod Spares
+pub mod SparePlaces
 pub mod Adds

@@ -14,7 +14,7 @@ use Rattle.otp_inbox.specs.Lists.{AsOften, EachInOrder}
 use Rattle.otp_sup.specs.Plans.{IsBegunBy}
 use Rattle.otp_close.specs.Partings.{schedulers_of}
 use Rattle.otp_close.specs.Tables.{AreOfTables, IsOfTable, shares_to}
-use Rattle.otp_close.proofs.Spares.{first_all, first_apart, first_at, first_ends, first_planned, first_starts}
+use Rattle.otp_close.proofs.SparePlaces.{first_all, first_apart, first_at, first_ends, first_planned, first_starts}
 use Rattle.otp_close.proofs.Refusals.{refused-report, refused-mismatch, refused-back, refused-missing, reached-by, unreached-missing, reported-missing, reported-back}
 use Rattle.otp_close.proofs.closing.close.Goals as goal
 

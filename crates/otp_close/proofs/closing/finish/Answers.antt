@@ -4,7 +4,7 @@ use Rattle.std.proofs.lemmas.List.{length-map}
 use Rattle.otp_run.specs.Rule.{ticket_of}
 use Rattle.otp_close.specs.Closes.{HaveBegun, IsComplete}
 use Rattle.otp_close.proofs.Refusals.{none_missing}
-use Rattle.otp_close.proofs.Spares.{all_tables}
+use Rattle.otp_close.proofs.SparePlaces.{all_tables}
 use Rattle.otp_close.proofs.Standings.{complete_kept}
 use Rattle.otp_close.proofs.closing.finish.Goals as goal
 

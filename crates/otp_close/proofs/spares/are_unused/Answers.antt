@@ -1,7 +1,7 @@
 use Rattle.std.proofs.Common.{◌≡◌, arith, length, refl, rules}
 use Rattle.std.specs.Prelude.{IsTrue}
 use Rattle.std.proofs.lemmas.Option.{slice_get_read}
-use Rattle.otp_close.proofs.Spares.{all_unused, one_more_unused}
+use Rattle.otp_close.proofs.SparePlaces.{all_unused, one_more_unused}
 use Rattle.otp_close.proofs.spares.are_unused.Goals as goal
 
 pub loop-place-init : goal.loop-place-init

@@ -1,7 +1,7 @@
 use Rattle.std.proofs.Common.{◌≡◌, ◌∙◌, subst, sym}
 use Rattle.otp_close.proofs.Standings.{complete_kept}
 use Rattle.otp_close.specs.Closes.{IsReportOf}
-use Rattle.otp_open.proofs.Spares.{all_planned, each_planned}
+use Rattle.otp_open.proofs.SparePlaces.{all_planned, each_planned}
 use Rattle.otp_sup.specs.Plans.{AreAllPlanned}
 use Rattle.otp_live.proofs.served.serve_named.Goals as goal
 

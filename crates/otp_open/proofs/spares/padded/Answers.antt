@@ -1,5 +1,5 @@
 use Rattle.std.proofs.Common.{◌≡◌, ◌+◌, ◌++◌, ◌∷◌, [], add-zero, ap, arith, length, length-append, subst, sym, ◌∙◌}
-use Rattle.otp_open.proofs.Spares.{none_spare, one_spare}
+use Rattle.otp_open.proofs.SparePlaces.{none_spare, one_spare}
 use Rattle.otp_open.specs.Spares.{ArePadded}
 use Rattle.otp_open.proofs.spares.padded.Goals as goal
 

@@ -2,7 +2,7 @@ use Rattle.std.proofs.Common.{◌≡◌, ap, subst, sym, ◌∙◌}
 use Rattle.std.specs.Prelude.{IfOk}
 use Rattle.otp_close.proofs.Standings.{complete_kept}
 use Rattle.otp_close.specs.Closes.{IsReportOf}
-use Rattle.otp_open.proofs.Spares.{all_planned, each_planned}
+use Rattle.otp_open.proofs.SparePlaces.{all_planned, each_planned}
 use Rattle.otp_sup.specs.Plans.{AreAllPlanned}
 use Rattle.otp_hand.specs.Standings.{reach_of, standings}
 use Rattle.otp_tree.proofs.rounds.lead_named.Goals.{else-loop-test, then-loop-test+then-not-make_round}
