@@ -1,15 +1,31 @@
 -- Plans with those of spare places behind them.
 use Rattle.std.proofs.Common.{◌≡◌, ℕ, zero, suc, ◌+◌, ◌<◌, ◌≤◌, List, Option, Some, None, [], ◌∷◌, ◌++◌, append-nil, append_assoc, ap, arith, length, length-append, refl, subst, sym, take, ◌∙◌}
 use Rattle.std.specs.Prelude.{IfSome, MatchOption, is_some, slice_get}
+use Rattle.std.proofs.lemmas.Bool.{false≢true}
 use Rattle.otp_run.proofs.Places.{push_at}
 use Rattle.otp_run.specs.Lists.{AllAt}
 use Rattle.otp_sup.specs.Plans.{AreAllPlanned, IsPlanned}
-use Rattle.otp_spec.specs.Supervisor.{Supervisor}
+use Rattle.otp_spec.specs.Flags.{default_flags, is_simple}
+use Rattle.otp_spec.specs.Lawful.{first_fault}
+use Rattle.otp_spec.specs.Supervisor.{IsLawful, Supervisor}
 use Rattle.otp_open.specs.Plans.{ArePlanned, HasBodies, HaveBodies, IsOpenFault, Lacks, LacksBody, plans_of}
 use Rattle.otp_open.specs.Spares.{ArePadded, IsSpare}
 use Rattle.otp_open.specs.declared.opening.SystemFault.{SystemFault}
 use Rattle.otp_open.specs.declared.opening.SystemFault.TheVariants as fault
 use Rattle.otp_open.specs.declared.plan.TablePlan.{TablePlan}
+
+-- a place without children may be opened
+pub spare_lawful : IsLawful default_flags []
+unfolding first_fault
+spare_lawful =
+    record {
+      intensity = omega arith;
+      some_period = omega arith;
+      period = omega arith;
+      limit = omega arith;
+      simple = λ is. absurd (false≢true (ap is_simple is));
+      faultless = refl;
+    }
 
 module _ {J S : Type 0} where
   pub none_spare : (plans : List (TablePlan J S)) → ArePadded (length plans) plans plans

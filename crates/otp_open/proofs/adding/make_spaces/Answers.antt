@@ -1,4 +1,4 @@
-use Rattle.std.proofs.Common.{◌≡◌, ◌++◌, ◌∷◌, [], ◌∙◌, ap, arith, subst, sym, take}
+use Rattle.std.proofs.Common.{◌≡◌, ◌≤◌, ◌++◌, ◌∷◌, [], ◌∙◌, ap, arith, get_or, length, subst, sym, take}
 use Rattle.std.proofs.lemmas.List.{take_all, take_more}
 use Rattle.otp_open.specs.Adds.{Fit}
 use Rattle.otp_open.proofs.Adds.{fit_more}
@@ -14,9 +14,11 @@ loop-place-preserved g c =
     let made = c.in-Ok.ensures {u = tt} in
     let room = made.room in
     let len = c.len.ensures in
-    let ok = p.bodies.ok.0 in
+    let q = get_or plans n p in
+    let ok = q.bodies.ok.0 in
+    let many : length q.bodies.items ≤ c.in-Ok.space.room = omega (arith, room, len, ok) in
     subst (λ l. Fit l c.keep.new.list.items) (sym more)
-    (subst (Fit (take n plans ++ p ∷ [])) (sym kept) (fit_more (take n plans) _ p c.in-Ok.space c.loop-place.invariant (record { none = made.none; room = omega (arith, room, len, ok) })))
+    (subst (Fit (take n plans ++ p ∷ [])) (sym kept) (fit_more (take n plans) _ p c.in-Ok.space c.loop-place.invariant (record { none = made.none; room = subst (λ plan. length plan.bodies.items ≤ c.in-Ok.space.room) (sym c.index-plans-place.is) many })))
 
 pub returns : goal.returns
 returns g c = subst (λ l. Fit l c.loop-place.spaces.items) (take_all c.loop-place.place c.args.plans.now (omega (arith, c.loop-place-test.false))) c.loop-place.invariant

@@ -18,4 +18,4 @@ plan_anew-requires-clause-bodies g c =
     let wanted = count_opened plan.flags plan.specs in
     let long = ap length c.number_bodies.ensures ∙ length-map c.args.plan.bodies.items (body_at c.args.first) in
     let enough = c.requires.bodies in
-    ap (λ (l : List Kept). are_ready wanted l) c.hand_in_list-bodies.ensures ∙ enough_ready wanted _ (omega (arith, long, enough))
+    ap (λ (l : List Kept). are_ready wanted l) c.hand_in_list-bodies.ensures ∙ enough_ready wanted (length c.number_bodies.new.bodies.items) (omega (arith, long, enough))
