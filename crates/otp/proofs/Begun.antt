@@ -1,5 +1,5 @@
 -- A tree that was drawn up, by the plans that it was opened with.
-use Rattle.std.proofs.Common.{Some, None, ◌≡◌, ℕ, zero, suc, ◌≤◌, List, [], ◌∷◌, Bool, true, false, All, Result, arith, length, map, refl, sym, ap, ◌∙◌, subst}
+use Rattle.std.proofs.Common.{Some, None, Option, ◌≡◌, ℕ, zero, suc, ◌≤◌, List, [], ◌∷◌, Bool, true, false, All, Result, arith, length, map, refl, sym, ap, ◌∙◌, subst}
 use Rattle.std.specs.Prelude.{slice_get, IfSome, MatchOption, if◌then◌else◌}
 use Rattle.otp_close.specs.Closes.{HaveBegun, report_in}
 use Rattle.otp_close.specs.declared.closing.CloseFault.{CloseFault}
@@ -19,7 +19,7 @@ use Rattle.otp_run.specs.Lists.{AllAt}
 use Rattle.otp_spec.specs.Flags.{is_simple}
 use Rattle.otp_spec.specs.Supervisor.{Supervisor}
 use Rattle.otp_spec.specs.declared.child.ChildSpec.{ChildSpec}
-use Rattle.otp_sup.specs.Plans.{never_opened}
+use Rattle.otp_sup.specs.Plans.{IsBegunBy}
 use Rattle.otp_tree.specs.Closes.{IsRunOpenFault}
 use Rattle.otp_tree.specs.declared.whole.RunFault.{RunFault}
 use Rattle.otp_tree.specs.declared.whole.RunFault.TheVariants as run
@@ -40,8 +40,8 @@ module _ {J S : Type 0} where
   pub have_begun : (plans : List (TablePlan J S)) (root : Tree J S) (tables : List TableReport)
       → map seen_in_tree plans ≡ numbered 0 (draft.plans_of root) → HaveBegun (opened.plans_of plans) tables → HaveBegun (supervisors_of root) tables
   have_begun plans root tables same begun =
-      each_at (λ k (t : TableReport). t.core.base ≡ never_opened (opened.plans_of plans k)) (λ k t. t.core.base ≡ never_opened (supervisors_of root k)) tables begun
-      (λ k t within is. is ∙ ap never_opened (said_at plans k ∙ ap (λ (all : List (Planned J S)). supervisor_in (slice_get all k)) same))
+      each_at (λ k (t : TableReport). IsBegunBy (opened.plans_of plans k) t.core.base) (λ k t. IsBegunBy (supervisors_of root k) t.core.base) tables begun
+      (λ k t within is. subst (λ (p : Option Supervisor). IsBegunBy p t.core.base) (said_at plans k ∙ ap (λ (all : List (Planned J S)). supervisor_in (slice_get all k)) same) is)
 
   -- the same of a report that is there too where a mismatch was found
   pub have_begun_in : (plans : List (TablePlan J S)) (root : Tree J S) (closed : Result (Report J S) (CloseFault J S (Unit {0})))

@@ -6,7 +6,6 @@ use Rattle.otp_draft.specs.Trees.{Tree, plans_of}
 use Rattle.otp_draft.specs.declared.fault.Refused.{Refused}
 use Rattle.otp_run.specs.Rule.{all_parts}
 use Rattle.otp_spec.specs.Supervisor.{Supervisor}
-use Rattle.otp_sup.specs.Plans.{no_plan}
 use Rattle.otp_tree.specs.Closes.{IsRunMismatchOnly, IsRunNoneMissing}
 use Rattle.otp_tree.specs.declared.whole.RunFault.{RunFault}
 use Rattle.otp_tree.specs.declared.whole.RunFault.TheVariants as run
@@ -20,12 +19,12 @@ module _ {J S : Type 0} where
   abbrev pub seen_in_tree : TablePlan J S → Planned J S
   seen_in_tree plan = record { supervisor = plan.supervisor; bodies = plan.bodies.items }
 
-  abbrev pub supervisor_in : Option (Planned J S) → Supervisor
-  supervisor_in (Some plan) = plan.supervisor
-  supervisor_in None = no_plan
+  abbrev pub supervisor_in : Option (Planned J S) → Option Supervisor
+  supervisor_in (Some plan) = Some plan.supervisor
+  supervisor_in None = None
 
   -- the flags and the specifications of the supervisor with each number, which is its place in the walk over the tree
-  abbrev pub supervisors_of : Tree J S → ℕ → Supervisor
+  abbrev pub supervisors_of : Tree J S → ℕ → Option Supervisor
   supervisors_of root number = supervisor_in (slice_get (numbered 0 (plans_of root)) number)
 
   -- no child is said to have no body

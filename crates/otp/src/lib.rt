@@ -16,7 +16,8 @@
 //! ```
 //!
 //! `crates/otp_uses/src/until_stopped.rt` is this whole, with its job: another thread raises the stop, and a watch writes what
-//! happens. Whoever does more with the open tree writes a [`Session`] for [`with_tree`].
+//! happens. Whoever does more with the open tree writes a [`Session`] for [`with_tree`]. To a tree that [`with_growing_system`]
+//! opened, with [`plans`] of it, a session adds others while it runs ([`add_tree`]).
 //!
 //! # Limits
 //!
@@ -24,11 +25,13 @@
 //! is served by 1 to [`MAX_HANDS`] hands. `docs/FORMATS.md` has what happens at each limit.
 #![tactic(auto)]
 
+pub mod adding;
 pub mod fault;
 pub mod running;
 pub mod still;
 mod watching;
 
+pub use adding::{NotAdded, add_tree};
 pub use fault::{Fault, Unrun};
 pub use otp_bridge::{BoxedSubsystem, Bridge, Subsystem};
 pub use otp_core::ReplyAnswer;
@@ -47,9 +50,9 @@ pub use otp_spec::{
     SpecFault, SpecKey, Strategy, SupFlags,
 };
 pub use otp_tree::{
-    CallEnd, CallId, CallRequest, Client, CountedRun, Gate, Hand, Leader, Led, MAX_HANDS, Millis,
-    Report, Round, RunFault, Session, System, SystemFault, TablePlan, TableReport, TreeNaming,
-    with_system,
+    AddFault, CallEnd, CallId, CallRefusal, CallRequest, Client, CountedRun, Gate, Hand, Leader,
+    Led, MAX_HANDS, Millis, NoTable, Report, Round, RunFault, Session, System, SystemFault,
+    TablePlan, TableReport, TreeNaming, Unadded, Uncalled, with_growing_system, with_system,
 };
 pub use running::{lead, plans, run, run_counted, run_turns, run_with_callers, with_tree};
 pub use still::Still;

@@ -6,3 +6,4 @@ pub mod Owned
 pub mod Stored
 pub mod Few
 pub mod OnlyLoose
+pub mod Handed

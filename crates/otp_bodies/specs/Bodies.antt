@@ -231,6 +231,11 @@ are_given (suc n) kept = are_given n kept && list_any (is_given n) kept
 abbrev pub are_ready : ℕ → List Kept → Bool
 are_ready n kept = are_given n kept && not (list_any is_out kept)
 
+-- so many bodies that were handed in, each for the specification at its place
+abbrev pub handed_in : ℕ → List Kept
+handed_in zero = []
+handed_in (suc n) = handed_in n ++ record { origin = origin.Spec n; place = place.Free } ∷ []
+
 -- the body of the child in this slot goes with its process
 abbrev pub left_home : Option ℕ → List Kept → List Kept
 left_home None kept = kept

@@ -1,7 +1,7 @@
 //! The bodies that a supervisor keeps: of children that have no process, and those that no child has.
-ghost use Rattle.std.specs.Prelude.{◌≡◌, ℕ, ◌<◌, ◌≤◌, ◌++◌, ◌∷◌, [], true, get_or, is_some, false, length, position, remove, slice_set, Bool, IfErr, IfSome, IsTrue, MatchOption, None, OnOk, OnErr, Some};
+ghost use Rattle.std.specs.Prelude.{◌≡◌, ℕ, ◌+◌, ◌<◌, ◌≤◌, ◌++◌, ◌∷◌, [], true, get_or, is_some, false, length, position, remove, slice_set, Bool, IfErr, IfOk, IfSome, IsTrue, MatchOption, None, OnOk, OnErr, Some};
 ghost use Rattle.std.specs.List.{list_any};
-ghost use Rattle.otp_bodies.specs.Bodies.{AreHere, are_ready, come_home, came_for, count_given, has_body, home_or_free, IsNew, is_at_home, is_away, is_here, is_left_of, is_stray, is_waiting, move_first, opened, place_of_call, place_without_line, put_home, settled, without_first, count_opened};
+ghost use Rattle.otp_bodies.specs.Bodies.{AreHere, are_ready, come_home, came_for, count_given, handed_in, has_body, home_or_free, IsNew, is_at_home, is_away, is_here, is_left_of, is_stray, is_waiting, move_first, opened, place_of_call, place_without_line, put_home, settled, without_first, count_opened};
 ghost use Rattle.otp_bodies.specs.Slots.{AreBelow};
 ghost use Rattle.otp_bodies.specs.declared.bodies.Kept.{Kept};
 ghost use Rattle.otp_bodies.specs.declared.bodies.Origin.TheVariants as origin;
@@ -97,6 +97,54 @@ impl<B: Drop> Bodies<B> {
             bodies: Vec::new(alloc),
             only: Some(0),
         }
+    }
+
+    /// No bodies, and room for so many.
+    pub fn with_room(alloc: Global, count: usize) -> Result<Bodies<B>, AllocError>
+        ensures none { IfOk result (λ b. b.kept ≡ []) }
+        ensures room { IfOk result (λ b. count ≤ b.room) }
+    {
+        let kept = Vec::with_capacity(alloc, count)?;
+        let Ok(bodies) = Vec::with_capacity(alloc, count) else {
+            drop(kept);
+            return Err(AllocError);
+        };
+        Ok(Bodies {
+            kept,
+            bodies,
+            only: None,
+        })
+    }
+
+    /// Hands in the body of the next child specification, for which there is room.
+    #[tactic(auto, using(crate::proofs::Handed::handed_more))]
+    fn hand_in_next(&mut self, count: usize, body: B)
+        requires room { 0 < self.old.room }
+        requires handed { self.old.kept ≡ handed_in count }
+        ensures handed { self.new.kept ≡ handed_in (count + 1) }
+        ensures room { self.new.room + 1 ≡ self.old.room }
+    {
+        self.only = None;
+        self.kept.push_reserved(Kept {
+            origin: Origin::Spec(count),
+            place: Place::Free,
+        });
+        self.bodies.push_reserved(Some(body));
+    }
+
+    /// Hands in the bodies of the first child specifications, in their order, for which there is room. Takes no memory.
+    pub fn hand_in_list(self, list: Vec<B>) -> Bodies<B>
+        requires none { self.kept ≡ [] }
+        requires room { length list.items ≤ self.room }
+        ensures { result.kept ≡ handed_in (length list.items) }
+    {
+        let mut bodies = self;
+        let mut count = 0;
+        for body in list {
+            bodies.hand_in_next(count, body);
+            count += 1;
+        }
+        bodies
     }
 
     /// Of each child specification one body at most was handed in and is kept.

@@ -10,3 +10,4 @@ pub mod Begun
 pub mod Come
 pub mod Ended
 pub mod Standings
+pub mod SparePlaces

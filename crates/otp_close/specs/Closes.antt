@@ -1,6 +1,6 @@
 -- When all parts of a tree are there, and what it leaves. (own)
 use Rattle.otp_core.specs.View.{stored_of}
-use Rattle.std.specs.Prelude.{◌≡◌, ℕ, ◌+◌, ◌<◌, ◌≤◌, ⊤, List, ◌∷◌, Option, Some, None, Result, Ok, Err, MatchOption, All, AllPairs, length, map}
+use Rattle.std.specs.Prelude.{◌≡◌, ℕ, ◌+◌, ◌<◌, ◌≤◌, ⊤, List, ◌∷◌, Option, Some, None, Result, Ok, Err, MatchOption, All, AllPairs, is_some, length, map, true}
 use Rattle.otp_inbox.specs.Tokens.{SenderState, all_parts}
 use Rattle.otp_bodies.specs.declared.letter.Message.{Message}
 use Rattle.otp_rules.specs.Needs.{numbers_of}
@@ -8,7 +8,7 @@ use Rattle.otp_run.specs.Gathers.{IsAll}
 use Rattle.otp_run.specs.Lists.{AllAt}
 use Rattle.otp_signals.specs.Lists.{NoneInBoth}
 use Rattle.otp_spec.specs.Supervisor.{Supervisor}
-use Rattle.otp_sup.specs.Plans.{never_opened}
+use Rattle.otp_sup.specs.Plans.{IsBegunBy}
 use Rattle.otp_bodies.specs.Ends.{AreTold}
 use Rattle.otp_office.specs.Offices.{Begins}
 use Rattle.otp_close.specs.declared.closing.CloseFault.{CloseFault}
@@ -47,9 +47,18 @@ abbrev pub HasBegun : TableReport → Type 0
 HasBegun t = Begins t.core.base
 
 -- each core began as the supervisor that these plans have under its number, which was never opened: with the flags and the
--- specifications of that plan
-abbrev pub HaveBegun : (ℕ → Supervisor) → List TableReport → Type 0
-HaveBegun plans tables = AllAt (λ k (t : TableReport). t.core.base ≡ never_opened (plans k)) tables
+-- specifications of that plan. Of one that was added later they have none
+abbrev pub HaveBegun : (ℕ → Option Supervisor) → List TableReport → Type 0
+HaveBegun plans tables = AllAt (λ k (t : TableReport). IsBegunBy (plans k) t.core.base) tables
+
+-- none of so many places from this one on had a plan when the tree got its name
+abbrev pub IsFreeFrom : (ℕ → Option Supervisor) → ℕ → ℕ → Type 0
+IsFreeFrom plans places from = (k : ℕ) → from ≤ k → k < places → plans k ≡ None
+
+-- of so many places so many have a supervisor: each that had a plan when the tree got its name has
+pub record HasTables (plans : ℕ → Option Supervisor) (places tables : ℕ) : Type 0 where
+  pub few : tables ≤ places
+  pub planned : (k : ℕ) → k < places → is_some (plans k) ≡ true → k < tables
 
 -- each end of another supervisor that the history was told is for the note's reason, and shown
 abbrev pub HasTold : TableReport → Type 0

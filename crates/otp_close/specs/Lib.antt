@@ -5,3 +5,4 @@ pub mod Totals
 pub mod Gathers
 pub mod Settlings
 pub mod Closes
+pub mod Spares

@@ -31,7 +31,7 @@ shares_to place all = record { starts = sum_by (starts_at place) all; turns = su
 
 -- the report of the supervisor with this inbox, to which these messages were sent, and for which so much was credited. It kept OTP's
 -- rules until it was taken apart
-pub record IsOfTable (plans : ℕ → Supervisor) (inbox : ℕ) (sent : List Message) (credited : Shares) (t : TableReport) : Type 0 where
+pub record IsOfTable (plans : ℕ → Option Supervisor) (inbox : ℕ) (sent : List Message) (credited : Shares) (t : TableReport) : Type 0 where
   -- its table, as its last turn left it
   pub table : TableView
   pub own : table.taker.inbox ≡ inbox
@@ -50,5 +50,5 @@ pub record IsOfTable (plans : ℕ → Supervisor) (inbox : ℕ) (sent : List Mes
   pub given : credited ≡ table.taker.given
 
 -- the same of all supervisors of a tree, to which these senders sent, and which were credited for them
-abbrev pub AreOfTables : (ℕ → Supervisor) → List (List (SenderState Message)) → List TableReport → Type 0
+abbrev pub AreOfTables : (ℕ → Option Supervisor) → List (List (SenderState Message)) → List TableReport → Type 0
 AreOfTables plans all tables = AllAt (λ k (t : TableReport). IsOfTable plans k (sent_to k all) (shares_to k all) t) tables

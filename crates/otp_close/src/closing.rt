@@ -10,7 +10,7 @@ ghost use Rattle.otp_signals.specs.Lists.{AllIn, NoneInBoth};
 ghost use Rattle.otp_close.specs.Totals.{HasAllStarts, starts_of, unsent_of, HasAllEnds, HasHeard, ends_of};
 ghost use Rattle.otp_hand.specs.Begun.{starts_credited};
 ghost use Rattle.otp_hand.specs.Ended.{ends_sent, held_by};
-ghost use Rattle.otp_close.specs.Closes.{AreApart, HasBegun, HasTold, HaveBegun, IsComplete, IsIntact, IsMismatchOnly, IsMissingOnly, IsReached, IsRefusalOf, IsReportOf, NoneMissing, all_senders, kept_in, report_in};
+ghost use Rattle.otp_close.specs.Closes.{AreApart, HasTables, IsFreeFrom, HasBegun, HasTold, HaveBegun, IsComplete, IsIntact, IsMismatchOnly, IsMissingOnly, IsReached, IsRefusalOf, IsReportOf, NoneMissing, all_senders, kept_in, report_in};
 ghost use Rattle.otp_bodies.specs.Messages.{items_in};
 ghost use Rattle.otp_close.specs.Leavings.{AreAccounted, AreInOrder, HasCome, HasUnsent, HaveCome, IsLast, IsLastInOrder, line_of, lists_at};
 ghost use Rattle.otp_close.specs.Tables.{AreOfTables, IsOfTable, shares_at};
@@ -19,13 +19,14 @@ ghost use Rattle.otp_hand.specs.Sendings.{sent_at};
 ghost use Rattle.otp_close.specs.Partings.{schedulers_of};
 ghost use Rattle.otp_close.specs.Settlings.{AreReady, IsLoose, IsReady, held_in, senders_in};
 ghost use Rattle.otp_report.specs.Tellings.{AreSo};
-ghost use Rattle.otp_sup.specs.Plans.{never_opened};
+ghost use Rattle.otp_sup.specs.Plans.{AreAllPlanned, IsBegunBy};
 
 use crate::complete::is_reached;
 use crate::joining::{Joined, join_all};
 use crate::parting::{Gathered, HandsFault, gather_hands};
 use crate::rooms::LeftRoom;
 use crate::settling::settle;
+use crate::spares::without_spares;
 use crate::unlocking::{Loose, Unready, loosen};
 use otp_hand::places::next_of;
 use otp_hand::{Client, Hand, Shared, TreeNaming};
@@ -87,7 +88,8 @@ pub struct Intact<N: TreeNaming, J: Drop, S: Drop> {
     pub client: Client<N, Body<J, S>>,
 }
 
-/// Takes the tree apart, and reports what it was, with what is left in each inbox.
+/// Takes the tree apart, and reports what it was, with what is left in each inbox. So many of its places, the first, are known to have
+/// a supervisor; no other had a plan when the tree got its name, and those that did nothing are left out.
 ///
 /// Of each supervisor stands what [`Table::keeps_rules`](otp_sup::Table::keeps_rules) says; and no process number is a child's in
 /// two supervisors (`apart`), since each one's seat comes home to the client's.
@@ -107,10 +109,13 @@ pub fn close<N: TreeNaming, J: Drop, S: Drop, R: Wait>(
     shared: Shared<N, J, S>,
     hands: Vec<Hand<N, J, S>>,
     client: Client<N, Body<J, S>>,
+    known: usize,
 ) -> Result<Report<J, S>, CloseFault<J, S, Intact<N, J, S>>>
+    requires { IsFreeFrom N.plan shared.tables known }
     // All parts were there, if there is a report.
     ensures complete { OnSome (report_in result) (IsComplete shared hands.items client) }
-    ensures count { IfSome (report_in result) (λ report. length report.tables.items ≡ shared.tables) }
+    // It has each supervisor that had a plan when the tree got its name, and others that did something, or got something.
+    ensures count { IfSome (report_in result) (λ report. HasTables N.plan shared.tables (length report.tables.items)) }
     // Each process that a hand put was found or is left, and what is live is what is left and what hands have out.
     ensures live { IfSome (report_in result) (λ report. IsLiveTotal (schedulers_of hands.items) report.live (map ticket_of report.processes.items)) }
     ensures begun { IfSome (report_in result) (λ report. report.begun ≡ sum_by begun_of (schedulers_of hands.items)) }
@@ -159,7 +164,10 @@ pub fn close<N: TreeNaming, J: Drop, S: Drop, R: Wait>(
         Err(Unready { cause, shared }) => return Err(refuse(cause, shared, hands, client)),
     };
     match gather_hands(alloc, hands) {
-        Ok(gathered) => judge(report_of(rt, loose, gathered, client)),
+        Ok(gathered) => {
+            let report = report_of(rt, loose, gathered, client);
+            judge(without_spares(report, known))
+        }
         Err(HandsFault { cause, hands }) => Err(refuse(cause, loose.lock(), hands, client)),
     }
 }
@@ -171,8 +179,10 @@ pub fn finish<N: TreeNaming, J: Drop, S: Drop, R: Wait>(
     shared: Shared<N, J, S>,
     hands: Vec<Hand<N, J, S>>,
     client: Client<N, Body<J, S>>,
+    known: usize,
 ) -> Result<Report<J, S>, CloseFault<J, S, ()>>
-    ensures report { IfOk result (IsReportOf shared.tables) }
+    requires { IsFreeFrom N.plan shared.tables known }
+    ensures report { AreAllPlanned N.plan shared.tables → IfOk result (IsReportOf shared.tables) }
     ensures plans { IfSome (report_in result) (λ report. HaveBegun N.plan report.tables.items) }
     ensures mismatch { IfErr result IsMismatchOnly }
     // Of a tree that is whole no part is said to be missing.
@@ -180,7 +190,7 @@ pub fn finish<N: TreeNaming, J: Drop, S: Drop, R: Wait>(
 {
     let mut hands = hands;
     rouse_all(&mut hands);
-    match close(rt, alloc, shared, hands, client) {
+    match close(rt, alloc, shared, hands, client, known) {
         Ok(report) => Ok(report),
         Err(fault) => Err(fault.without_tree()),
     }
@@ -318,7 +328,7 @@ fn take_apart<N: SupNaming, B: Drop, R: Wait>(
     owner: &mut Owner<N>,
 ) -> TableReport
     requires { IsReady sup sender room }
-    ensures plan { result.core.base ≡ never_opened (N.plan sup.inbox) }
+    ensures plan { IsBegunBy (N.plan sup.inbox) result.core.base }
     ensures begins { HasBegun result }
     ensures shown { HasTold result }
     ensures left { AsOften (items_in (all_sent sender)) (line_of result) }

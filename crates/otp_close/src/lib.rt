@@ -7,6 +7,7 @@
 //! - `parting.rt`: hands in two parts, their schedulers and the rest; the schedulers give their ledger.
 //! - `joining.rt`: the senders of all hands come home to the client's, so each knows all that was sent.
 //! - `settling.rt`: an inbox is emptied.
+//! - `spares.rt`: places that never had a supervisor are left out of the report.
 //! - `closing.rt`: all of it, in order, and the report.
 #![tactic(auto)]
 
@@ -16,6 +17,7 @@ mod joining;
 mod parting;
 mod rooms;
 mod settling;
+mod spares;
 mod unlocking;
 
 pub use closing::{CloseFault, Intact, close, finish};

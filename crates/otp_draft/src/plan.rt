@@ -84,8 +84,9 @@ fn number_each<J: Drop, S: Drop>(bodies: &mut [Body<J, S>], number: usize)
     }
 }
 
-/// The same for a whole list.
-fn number_bodies<J: Drop, S: Drop>(bodies: &mut Vec<Body<J, S>>, number: usize)
+/// Gives the children of the supervisor with this number their numbers: before, that of a child which is a supervisor says how many
+/// places it stands behind it.
+pub fn number_bodies<J: Drop, S: Drop>(bodies: &mut Vec<Body<J, S>>, number: usize)
     requires near { All IsNear bodies.old.items }
     requires few { number < MAX_TABLES }
     ensures { bodies.new.items ≡ map (body_at number) bodies.old.items }

@@ -1,5 +1,5 @@
 -- A tree of a file, by the plans that it is opened with.
-use Rattle.std.proofs.Common.{Some, None, ◌≡◌, ℕ, zero, suc, ◌+◌, List, [], ◌∷◌, Option, arith, map, refl, ap, ◌∙◌}
+use Rattle.std.proofs.Common.{Some, None, ◌≡◌, ℕ, zero, suc, ◌+◌, List, [], ◌∷◌, Option, arith, map, refl, ap, subst, ◌∙◌}
 use Rattle.std.specs.Prelude.{slice_get, IfSome, MatchOption}
 use Rattle.otp_close.specs.Closes.{HaveBegun}
 use Rattle.otp_file.specs.Trees.{Table}
@@ -9,7 +9,7 @@ use Rattle.otp_open.specs.declared.plan.TablePlan.{TablePlan}
 use Rattle.otp_report.specs.declared.report.TableReport.{TableReport}
 use Rattle.otp_run.proofs.Places.{each_at}
 use Rattle.otp_spec.specs.Supervisor.{Supervisor}
-use Rattle.otp_sup.specs.Plans.{never_opened, no_plan}
+use Rattle.otp_sup.specs.Plans.{IsBegunBy}
 use Rattle.otp_tree.specs.Closes.{IsRunOpenFault}
 use Rattle.otp_tree.specs.declared.whole.RunFault.{RunFault}
 use Rattle.otp_tree.specs.declared.whole.RunFault.TheVariants as run
@@ -18,9 +18,9 @@ use Rattle.otp_jobs.specs.Plans.{PlanView, plans_from, seen, supervisors_of}
 use Rattle.otp_jobs.specs.declared.role.Calm.{Calm}
 use Rattle.otp_jobs.specs.declared.worker.WorkedJob.{WorkedJob}
 
-abbrev supervisor_seen : Option PlanView → Supervisor
-supervisor_seen (Some view) = record { flags = view.flags; specs = view.specs }
-supervisor_seen None = no_plan
+abbrev supervisor_seen : Option PlanView → Option Supervisor
+supervisor_seen (Some view) = Some (record { flags = view.flags; specs = view.specs })
+supervisor_seen None = None
 
 planned_at : (plans : List (TablePlan WorkedJob Calm)) (k : ℕ) → plans_of plans k ≡ supervisor_seen (slice_get (map seen plans) k)
 planned_at [] k = refl
@@ -37,10 +37,10 @@ pub opened_at : (plans : List (TablePlan WorkedJob Calm)) (tables : List Table) 
 opened_at plans tables same k = planned_at plans k ∙ ap (λ (views : List PlanView). supervisor_seen (slice_get views k)) same ∙ said_at 0 tables k
 
 -- so a report of the plans is one of the tree
-pub have_begun : (plans other : ℕ → Supervisor) (reports : List TableReport) → ((k : ℕ) → plans k ≡ other k) → HaveBegun plans reports → HaveBegun other reports
+pub have_begun : (plans other : ℕ → Option Supervisor) (reports : List TableReport) → ((k : ℕ) → plans k ≡ other k) → HaveBegun plans reports → HaveBegun other reports
 have_begun plans other reports same begun =
-    each_at (λ k (t : TableReport). t.core.base ≡ never_opened (plans k)) (λ k t. t.core.base ≡ never_opened (other k)) reports begun
-    (λ k t within is. is ∙ ap never_opened (same k))
+    each_at (λ k (t : TableReport). IsBegunBy (plans k) t.core.base) (λ k t. IsBegunBy (other k) t.core.base) reports begun
+    (λ k t within is. subst (λ (p : Option Supervisor). IsBegunBy p t.core.base) (same k) is)
 
 -- where each plan has its bodies, none lacks one
 pub none_bare : {J S : Type 0} (plans : List (TablePlan J S)) (why : RunFault J S) → HaveBodies plans → IsRunOpenFault plans why → IsNoneBare why

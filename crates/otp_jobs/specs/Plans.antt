@@ -13,7 +13,6 @@ use Rattle.otp_spec.specs.declared.child.ChildSpec.{ChildSpec}
 use Rattle.otp_spec.specs.declared.child.ChildType.{ChildType}
 use Rattle.otp_spec.specs.declared.child.ChildType.TheVariants as kind
 use Rattle.otp_spec.specs.declared.flags.SupFlags.{SupFlags}
-use Rattle.otp_sup.specs.Plans.{no_plan}
 use Rattle.otp_open.specs.declared.plan.TablePlan.{TablePlan}
 use Rattle.otp_jobs.specs.Jobs.{body_of, role_of}
 use Rattle.otp_jobs.specs.declared.flat.FlatTable.{FlatTable}
@@ -146,12 +145,12 @@ plans_from number (table ∷ tables) = plan_of (number + 1) (tree_sizes tables) 
 abbrev pub seen : TablePlan WorkedJob Calm → PlanView
 seen plan = record { flags = plan.supervisor.flags; specs = plan.supervisor.specs; bodies = map Some plan.bodies.items }
 
-abbrev pub supervisor_in : Option Table → Supervisor
-supervisor_in (Some table) = record { flags = table.flags; specs = table.specs }
-supervisor_in None = no_plan
+abbrev pub supervisor_in : Option Table → Option Supervisor
+supervisor_in (Some table) = Some (record { flags = table.flags; specs = table.specs })
+supervisor_in None = None
 
 -- the flags and the specifications of the table with each number
-abbrev pub supervisors_of : List Table → ℕ → Supervisor
+abbrev pub supervisors_of : List Table → ℕ → Option Supervisor
 supervisors_of tables number = supervisor_in (slice_get tables number)
 
 abbrev pub table_seen : FlatTable → Table

@@ -12,3 +12,4 @@ pub mod StartOrders
 pub mod Telling
 mod Worked
 pub mod Due
+pub mod Anew

@@ -1,7 +1,7 @@
 //! A core with the seat that draws its numbers, and its orders on their way.
 ghost use Rattle.std.specs.Prelude.{◌≡◌, ℕ, ◌+◌, ◌<◌, ◌≤◌, ◌^◌, [], true, false, length, Contains, IsTrue, IfSome, IfErr, OnErr, OnOk, MatchOption, None};
 ghost use Rattle.otp_spec.specs.declared.limits.TheConstants.{MAX_CHILDREN, MAX_READING};
-ghost use Rattle.otp_core.specs.View.{state_of, stored_of};
+ghost use Rattle.otp_core.specs.View.{new_core, state_of, stored_of};
 ghost use Rattle.otp_rules.specs.State.{is_over};
 ghost use Rattle.otp_rules.specs.Counts.{counts_of};
 ghost use Rattle.otp_core.specs.Replies.{IsReplyAnswer};
@@ -27,6 +27,7 @@ use otp_table::Row;
 use otp_tally::Tally;
 use std::alloc::Global;
 use std::marker::{Model, PhantomData};
+use std::mem;
 
 /// The core of a supervisor, with the seat that draws its process numbers and posts to its slots, and with its orders
 /// on their way.
@@ -218,6 +219,24 @@ impl<N: WordsNaming> Office<N> {
         let _ = self.core.history();
         let _ = self.core.last_number();
         let _ = self.core.kept_restarts();
+    }
+
+    /// Whether no event has happened.
+    #[tactic(auto, using(crate::proofs::Anew::nothing_happened))]
+    pub fn is_unused(&self) -> bool
+        ensures { IsTrue result → self.now.core.history ≡ [] }
+    {
+        self.core.events_cut() == 0 && self.core.history().len() == 0
+    }
+
+    /// The core of another supervisor that was never opened takes the place of this one's, which had no event. Takes no memory.
+    pub fn plan_anew(&mut self, alloc: Global, supervisor: SupSpec)
+        requires { self.old.core.history ≡ [] }
+        ensures { self.new ≡ record self.old { core = new_core supervisor.flags supervisor.specs; outbox = [] } }
+    {
+        let old = mem::replace(&mut self.core, Core::of(alloc, supervisor));
+        drop(old);
+        self.next = 0;
     }
 
     /// Whether an order is still to be sent.

@@ -6,18 +6,10 @@ use Rattle.std.proofs.Math.Arith.{lt_of_le-ne}
 use Rattle.std.proofs.lemmas.Bool.{and_parts, eqb-false, eqb-true, false≢true, ne_eqb}
 use Rattle.std.proofs.lemmas.Bool.Decides.{leb_tells}
 use Rattle.std.proofs.lemmas.List.Folds.{list_any-append}
-use Rattle.otp_bodies.specs.Bodies.{are_given, are_ready, is_given, is_out}
-use Rattle.otp_bodies.specs.declared.bodies.Kept.{Kept}
+use Rattle.otp_bodies.specs.Bodies.{are_given, are_ready, handed_in, is_given, is_out}
 use Rattle.otp_bodies.specs.declared.bodies.Origin.TheVariants.{Spec}
 use Rattle.otp_bodies.specs.declared.bodies.Place.TheVariants.{Free}
 use Rattle.otp_bodies.proofs.Placed.{any_before, any_last}
-use Rattle.otp_open.specs.Plans.{handed_in}
-
-handed : ℕ → Kept
-handed n = record { origin = Spec n; place = Free }
-
-pub handed_more : (n : ℕ) → handed_in n ++ record { origin = Spec n; place = Free } ∷ [] ≡ handed_in (n + 1)
-handed_more n = let e : suc n ≡ n + 1 = omega arith in ap handed_in e
 
 -- none of them is with a process
 none_out : (n : ℕ) → list_any is_out (handed_in n) ≡ false
@@ -47,7 +39,7 @@ given_all zero n less = refl
 given_all (suc k) n less = ap (λ (b : Bool). b && list_any (is_given k) (handed_in n)) (given_all k n (omega (arith, less))) ∙ given_one k n (omega (arith, less))
 
 -- so they are ready exactly where there are enough
-enough_ready : (k n : ℕ) → k ≤ n → are_ready k (handed_in n) ≡ true
+pub enough_ready : (k n : ℕ) → k ≤ n → are_ready k (handed_in n) ≡ true
 enough_ready k n less = ap (λ (b : Bool). b && not (list_any is_out (handed_in n))) (given_all k n less) ∙ ap not (none_out n)
 
 lacking_unready : (k n : ℕ) → n < k → are_ready k (handed_in n) ≡ true → ⊥

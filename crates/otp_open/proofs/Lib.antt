@@ -3,3 +3,5 @@ pub mod Firsts
 pub mod Splits
 pub mod Handed
 pub mod EachOpened
+pub mod SparePlaces
+pub mod Adds

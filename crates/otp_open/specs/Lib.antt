@@ -2,3 +2,5 @@ pub mod Drafts
 pub mod Opens
 pub mod Passes
 pub mod Plans
+pub mod Spares
+pub mod Adds

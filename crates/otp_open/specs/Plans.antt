@@ -1,20 +1,12 @@
 -- The plans of a tree, by their places in the list, and why none is opened of them. (own)
-use Rattle.std.specs.Prelude.{◌≡◌, ◌<◌, ◌≤◌, ℕ, zero, suc, ⊤, List, [], ◌∷◌, ◌++◌, Option, Some, None, MatchOption, length, slice_get}
+use Rattle.std.specs.Prelude.{◌≡◌, ◌<◌, ◌≤◌, ℕ, ⊤, List, Option, Some, None, MatchOption, length, slice_get}
 use Rattle.otp_bodies.specs.Bodies.{count_opened}
-use Rattle.otp_bodies.specs.declared.bodies.Kept.{Kept}
-use Rattle.otp_bodies.specs.declared.bodies.Origin.TheVariants.{Spec}
-use Rattle.otp_bodies.specs.declared.bodies.Place.TheVariants.{Free}
 use Rattle.otp_run.specs.Lists.{AllAt}
 use Rattle.otp_spec.specs.Supervisor.{Supervisor}
-use Rattle.otp_sup.specs.Plans.{no_plan}
+use Rattle.otp_sup.specs.Plans.{IsPlanned}
 use Rattle.otp_open.specs.declared.opening.SystemFault.{SystemFault}
 use Rattle.otp_open.specs.declared.opening.SystemFault.TheVariants as fault
 use Rattle.otp_open.specs.declared.plan.TablePlan.{TablePlan}
-
--- so many bodies, each for the specification at its place
-abbrev pub handed_in : ℕ → List Kept
-handed_in zero = []
-handed_in (suc n) = handed_in n ++ record { origin = Spec n; place = Free } ∷ []
 
 -- there are fewer bodies than children that an opening makes
 abbrev pub Lacks : ℕ → Supervisor → Type 0
@@ -29,13 +21,17 @@ IsUnready number bodies plan fault.OutOfMemory = ⊤
 IsUnready number bodies plan (fault.NoBody table) = (table ≡ number) × Lacks bodies plan
 
 module _ {J S : Type 0} where
-  abbrev pub supervisor_in : Option (TablePlan J S) → Supervisor
-  supervisor_in (Some plan) = plan.supervisor
-  supervisor_in None = no_plan
+  abbrev pub supervisor_in : Option (TablePlan J S) → Option Supervisor
+  supervisor_in (Some plan) = Some plan.supervisor
+  supervisor_in None = None
 
-  -- the flags and the specifications that the supervisor of each number is opened with
-  abbrev pub plans_of : List (TablePlan J S) → ℕ → Supervisor
+  -- the flags and the specifications that the supervisor of each number is opened with; none where there is no plan for it
+  abbrev pub plans_of : List (TablePlan J S) → ℕ → Option Supervisor
   plans_of plans k = supervisor_in (slice_get plans k)
+
+  -- of each of these plans the name has the flags and the specifications, or none
+  abbrev pub ArePlanned : (ℕ → Option Supervisor) → List (TablePlan J S) → Type 0
+  ArePlanned names plans = AllAt (λ k plan. IsPlanned (names k) plan.supervisor) plans
 
   -- the plan has fewer bodies than an opening makes children
   abbrev pub LacksBody : TablePlan J S → Type 0
@@ -45,10 +41,14 @@ module _ {J S : Type 0} where
   abbrev pub HasBodies : TablePlan J S → Type 0
   HasBodies plan = Suffice (length plan.bodies.items) plan.supervisor
 
+  -- the plan at this place lacks a body
+  abbrev pub IsLackingAt : List (TablePlan J S) → ℕ → Type 0
+  IsLackingAt plans table = MatchOption (slice_get plans table) ⊥ LacksBody
+
   -- why no tree is opened of these plans: memory was refused, or the plan at this place lacks a body
   abbrev pub IsOpenFault : List (TablePlan J S) → SystemFault → Type 0
   IsOpenFault plans fault.OutOfMemory = ⊤
-  IsOpenFault plans (fault.NoBody table) = MatchOption (slice_get plans table) ⊥ LacksBody
+  IsOpenFault plans (fault.NoBody table) = IsLackingAt plans table
 
   -- each plan has its bodies
   abbrev pub HaveBodies : List (TablePlan J S) → Type 0

@@ -1,19 +1,24 @@
 //! How a tree is opened: what is drawn up becomes plans, plans become supervisors, and hands are made to serve them.
 //!
 //! - `draft.rt`: a supervisor is drawn up child by child ([`TableDraft`]); `plan.rt`: what comes of it ([`TablePlan`]).
-//! - `opening.rt`: each supervisor gets its number, its inbox and its seat ([`open_all`]).
+//! - `opening.rt`: each supervisor gets its number, its inbox and its seat ([`open_all`]); `spares.rt`: places behind them that have
+//!   none yet; `adding.rt`: supervisors are added there.
 //! - `hands.rt`: a hand for each scheduler ([`make_hands`]); `passes.rt`: its passes to the counts of supervisors.
 //!
 //! `otp_tree` puts it together, under a name (`Parts`).
 #![tactic(auto)]
 
+pub mod adding;
 pub mod draft;
 pub mod hands;
 pub mod opening;
 mod passes;
 pub mod plan;
+pub mod spares;
 
+pub use adding::{are_unused, find_lacking, find_stranger, make_spaces, plan_all};
 pub use draft::{TableDraft, Unplanned};
 pub use hands::{make_hands, seat};
 pub use opening::{Named, SLOTS, SystemFault, open_all, open_inboxes};
 pub use plan::TablePlan;
+pub use spares::with_spares;

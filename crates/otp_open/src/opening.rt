@@ -4,13 +4,13 @@ ghost use Rattle.otp_spec.specs.declared.limits.TheConstants.{MAX_CHILDREN, MAX_
 ghost use Rattle.otp_core.specs.View.{state_of};
 ghost use Rattle.otp_hand.specs.declared.client.TheConstants.{ROOT_SLOT};
 ghost use Rattle.otp_rules.specs.Counts.{counts_of};
-ghost use Rattle.otp_bodies.specs.Bodies.{are_ready, count_opened};
+ghost use Rattle.otp_bodies.specs.Bodies.{are_ready, count_opened, handed_in};
 ghost use Rattle.otp_inbox.specs.Tokens.{first_sender, no_shares};
 ghost use Rattle.otp_run.specs.Lists.{AllAt};
 ghost use Rattle.otp_signals.specs.Lists.{EachBetween, StayBelow, StayFrom};
-ghost use Rattle.otp_sup.specs.Plans.{never_opened};
+ghost use Rattle.otp_sup.specs.Plans.{IsBegunBy, IsPlanned};
 ghost use Rattle.otp_open.specs.Opens.{first_slot, slots_of};
-ghost use Rattle.otp_open.specs.Plans.{HasBodies, HaveBodies, IsOpenFault, IsUnready, Suffice, handed_in};
+ghost use Rattle.otp_open.specs.Plans.{ArePlanned, HasBodies, HaveBodies, IsOpenFault, IsUnready, Suffice};
 
 use crate::plan::TablePlan;
 use otp_counts::{CountsPass, Publisher};
@@ -87,7 +87,7 @@ fn open_one<N: SupNaming, J: Drop, S: Drop>(
     plan: TablePlan<J, S>,
 ) -> Result<NamedOne<N, J, S>, SystemFault>
     requires named { inbox ≡ N.inbox number }
-    requires plan { plan.supervisor ≡ N.plan number }
+    requires plan { IsPlanned (N.plan number) plan.supervisor }
     requires few { number < MAX_TABLES }
     requires slots { EachBetween (first_slot number) (first_slot (number + 1)) (Contains owner.old.slots) }
     requires unposted { owner.old.posts ≡ [] }
@@ -142,7 +142,7 @@ fn open_seated<N: SupNaming, J: Drop, S: Drop>(
     first: usize,
 ) -> Result<NamedOne<N, J, S>, AllocError>
     requires named { inbox ≡ N.inbox number }
-    requires plan { supervisor ≡ N.plan number }
+    requires plan { IsPlanned (N.plan number) supervisor }
     requires ready { are_ready (count_opened supervisor.flags supervisor.specs) bodies.kept ≡ true }
     requires drawn { seat.drawn ≡ [] }
     requires posts { seat.posts ≡ [] }
@@ -165,7 +165,7 @@ fn open_table<N: SupNaming, B: Drop>(
     taker: Taker<N, Message, Letter<B>>,
     bodies: Bodies<B>,
 ) -> Result<(Table<N, B>, CountsPass), AllocError>
-    requires plan { office.core.base ≡ never_opened (N.plan taker.inbox) }
+    requires plan { IsBegunBy (N.plan taker.inbox) office.core.base }
     requires history { office.core.history ≡ [] }
     requires taken { taker.taken ≡ [] }
     requires unused { (taker.empty_finds ≡ 0) × (taker.given ≡ no_shares) }
@@ -197,23 +197,11 @@ fn publish<N: WordsNaming>(
 fn hand_in_all<B: Drop>(alloc: Global, bodies: Vec<B>) -> Result<Bodies<B>, AllocError>
     ensures { IfOk result (λ all. all.kept ≡ handed_in (length bodies.items)) }
 {
-    let mut all = Bodies::new(alloc);
-    let count = bodies.len();
-    let mut bodies = bodies.into_iter();
-    for place in 0..count {
-        let body = next_of(&mut bodies);
-        match all.hand_in(place, body) {
-            Ok(()) => {}
-            Err(refused) => {
-                drop(refused);
-                drop(bodies);
-                drop(all);
-                return Err(AllocError);
-            }
-        }
-    }
-    drop(bodies);
-    Ok(all)
+    let Ok(all) = Bodies::with_room(alloc, bodies.len()) else {
+        drop(bodies);
+        return Err(AllocError);
+    };
+    Ok(all.hand_in_list(bodies))
 }
 
 /// All supervisors under their numbers, the first sender to each, and the first pass to the counts of each.
@@ -267,7 +255,7 @@ pub fn open_all<N: SupNaming, J: Drop, S: Drop>(
     plans: Vec<TablePlan<J, S>>,
 ) -> Result<Named<N, J, S>, SystemFault>
     requires named { AllAt (λ k id. id ≡ N.inbox k) inboxes.items }
-    requires plans { AllAt (λ k plan. plan.supervisor ≡ N.plan k) plans.items }
+    requires plans { ArePlanned N.plan plans.items }
     requires as_many { length plans.items ≡ length inboxes.items }
     requires few { length inboxes.items ≤ MAX_TABLES }
     requires slots { EachBetween 0 (slots_of (length inboxes.items)) (Contains owner.old.slots) }

@@ -9,13 +9,12 @@ use Rattle.otp_open.specs.declared.plan.TablePlan.{TablePlan}
 use Rattle.otp_run.proofs.Places.{map_at}
 use Rattle.otp_run.specs.Lists.{AllAt}
 use Rattle.otp_spec.specs.Supervisor.{Supervisor}
-use Rattle.otp_sup.specs.Plans.{no_plan}
 use Rattle.otp_serve.specs.Patient.{PatientView, patient_body, patient_of, patient_seen}
 use Rattle.otp_serve.specs.declared.patient.PatientJob.{PatientJob}
 
-abbrev shown : Option PatientView → Supervisor
-shown (Some view) = record { flags = view.flags; specs = view.specs }
-shown None = no_plan
+abbrev shown : Option PatientView → Option Supervisor
+shown (Some view) = Some (record { flags = view.flags; specs = view.specs })
+shown None = None
 
 patient_at : (plans : List (TablePlan PatientJob Calm)) (k : ℕ) → plans_of plans k ≡ shown (slice_get (map patient_seen plans) k)
 patient_at [] k = refl

@@ -1,3 +1,4 @@
+pub mod Anew
 pub mod Calls
 pub mod CountAfter
 pub mod Credits

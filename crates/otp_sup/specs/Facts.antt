@@ -1,5 +1,5 @@
 -- What a table stands for, and what it keeps.
-use Rattle.std.specs.Prelude.{◌≡◌, ◌==◌, ⊤, Bool, ◌∷◌, ℕ, ◌+◌, ◌<◌, ◌≤◌, true, false, ◌||◌, List, [], length, All, Contains}
+use Rattle.std.specs.Prelude.{◌≡◌, ◌==◌, ⊤, Bool, ◌∷◌, ℕ, ◌+◌, ◌<◌, ◌≤◌, true, false, ◌||◌, List, [], Option, length, All, Contains}
 use Rattle.std.specs.List.{list_any}
 use Rattle.otp_bodies.specs.declared.letter.Message.{Message}
 use Rattle.otp_rules.specs.Counts.{counts_of}
@@ -23,8 +23,8 @@ use Rattle.otp_bodies.specs.Messages.{items_in}
 use Rattle.otp_sup.specs.Told.{ends_told_in}
 use Rattle.otp_office.specs.Events.{items_of}
 use Rattle.otp_office.specs.Offices.{KeepsOffice, OfficeView, starts_sent}
-use Rattle.otp_sup.specs.Plans.{never_opened}
-use Rattle.otp_sup.specs.Published.{counts_along}
+use Rattle.otp_sup.specs.Plans.{IsBegunBy}
+use Rattle.otp_sup.specs.Published.{AreCounted, counts_along}
 
 -- what contracts see of a table
 pub record TableView : Type 0 where
@@ -102,15 +102,15 @@ abbrev pub HaveOneBody : OfficeView → List Kept → Type 0
 HaveOneBody o kept = (row : Row) → Contains (state_of o.core).rows row → HasOneBody (state_of o.core) (starts_in o.outbox) kept row
 
 -- of the plans that all supervisors have, by the numbers of their inboxes
-pub record IsTable (plans : ℕ → Supervisor) (t : TableView) : Type 0 where
+pub record IsTable (plans : ℕ → Option Supervisor) (t : TableView) : Type 0 where
   -- its history begins with the supervisor of its plan, never opened
-  pub plan : t.office.core.base ≡ never_opened (plans t.taker.inbox)
+  pub plan : IsBegunBy (plans t.taker.inbox) t.office.core.base
   pub taken : items_in t.taker.taken ≡ items_of t.office.core.history
   -- each start call that waits has its body with it, in their order
   pub calls : calls_waiting t.bodies ≡ starts_waiting (state_of t.office.core).waiting
   pub bodies : HasBodies t.office t.bodies
   -- what it counted was published at first and after each event
-  pub counts : t.counts.published ≡ counts_along t.office.core.base t.office.core.history
+  pub counts : AreCounted (plans t.taker.inbox) (counts_along t.office.core.base t.office.core.history) t.counts.published
   pub told : AreTold (stored_of t.office.core) t.ends_told
   -- they are those that came with what it took since the last checkpoint, and no other
   pub ends : t.ends_told ≡ ends_told_in t.office.core t.taker.taken
@@ -120,9 +120,10 @@ pub record IsTable (plans : ℕ → Supervisor) (t : TableView) : Type 0 where
   pub turns : t.taker.given.turns ≡ length t.office.core.history + t.taker.empty_finds
 
 -- what holds whenever the lock is free, where the supervisors have these plans by the numbers of their inboxes
-pub record KeepsRules (plans : ℕ → Supervisor) (t : TableView) : Type 0 where
-  -- its history begins with the supervisor of its plan, never opened: the flags and the specifications are that plan's
-  pub plan : t.office.core.base ≡ never_opened (plans t.taker.inbox)
+pub record KeepsRules (plans : ℕ → Option Supervisor) (t : TableView) : Type 0 where
+  -- its history begins with the supervisor of its plan, never opened: the flags and the specifications are that plan's. One that
+  -- got its plan later began as some supervisor that was never opened (the office says so)
+  pub plan : IsBegunBy (plans t.taker.inbox) t.office.core.base
   pub office : KeepsOffice t.office
   -- the items taken from the inbox are those of the history, each once and in order
   pub taken : items_in t.taker.taken ≡ items_of t.office.core.history
@@ -134,8 +135,9 @@ pub record KeepsRules (plans : ℕ → Supervisor) (t : TableView) : Type 0 wher
   pub each_body : HaveOneBody t.office t.bodies
   -- the counts that were published last are those of its children (count_children)
   pub counts : EndsWith (counts_of (state_of t.office.core)) t.counts.published
-  -- and all that were published are those before its first event and after each one, in their order, each once
-  pub published : t.counts.published ≡ counts_along t.office.core.base t.office.core.history
+  -- and all that were published are those before its first event and after each one, in their order, each once; of one that got its
+  -- plan later they come behind what its place counted before
+  pub published : AreCounted (plans t.taker.inbox) (counts_along t.office.core.base t.office.core.history) t.counts.published
   -- the ends that it was told came with notes of its history: each is for the note's reason, and shown
   pub told : AreTold (stored_of t.office.core) t.ends_told
   -- they are the ends that came with what it took from its inbox since the last checkpoint, and no other

@@ -7,3 +7,4 @@ pub mod Published
 pub mod Shares
 pub mod Told
 pub mod Turns
+pub mod Anew

@@ -102,13 +102,13 @@ Turned number reading told old new result =
     (λ early. (result ≡ early) × (new ≡ old))
 
 -- a table that kept the rules was of another inbox
-pub record IsOfAnother (plans : ℕ → Supervisor) (inbox : ℕ) : Type 0 where
+pub record IsOfAnother (plans : ℕ → Option Supervisor) (inbox : ℕ) : Type 0 where
   pub table : TableView
   pub rules : KeepsRules plans table
   pub other : table.taker.inbox ≡ inbox → ⊥
 
 -- a table of this inbox, which kept the rules, had such a turn
-pub record TurnedUnder (plans : ℕ → Supervisor) (inbox number reading : ℕ) (told : Signal) (result : Result TurnAnswer TurnFault) : Type 0 where
+pub record TurnedUnder (plans : ℕ → Option Supervisor) (inbox number reading : ℕ) (told : Signal) (result : Result TurnAnswer TurnFault) : Type 0 where
   pub old : TableView
   pub new : TableView
   pub rules : KeepsRules plans old
@@ -116,7 +116,7 @@ pub record TurnedUnder (plans : ℕ → Supervisor) (inbox number reading : ℕ)
   pub turned : Turned number reading told old new result
 
 -- a table that kept the rules has no order left to be sent, or the port refused one
-pub record IsFlushed (plans : ℕ → Supervisor) (refusals later : ℕ) : Type 0 where
+pub record IsFlushed (plans : ℕ → Option Supervisor) (refusals later : ℕ) : Type 0 where
   pub table : TableView
   pub rules : KeepsRules plans table
   pub sent : (table.office.outbox ≡ []) ⊎ (refusals < later)
@@ -124,7 +124,7 @@ pub record IsFlushed (plans : ℕ → Supervisor) (refusals later : ℕ) : Type 
 -- one table of this inbox, which kept the rules, had such a turn; then a checkpoint was made where that was Full; then its
 -- first orders were sent, until none was left or the port refused: the port took exactly what those put and tell. What is
 -- left under the lock keeps the rules
-pub record LockedTurn (plans : ℕ → Supervisor) (inbox number reading : ℕ) (told : Signal) (result : Result TurnAnswer TurnFault) (before after : Taken) (refusals later : ℕ) : Type 0 where
+pub record LockedTurn (plans : ℕ → Option Supervisor) (inbox number reading : ℕ) (told : Signal) (result : Result TurnAnswer TurnFault) (before after : Taken) (refusals later : ℕ) : Type 0 where
   pub old : TableView
   pub turned : TableView
   pub new : TableView
@@ -150,31 +150,31 @@ pub record LockedTurn (plans : ℕ → Supervisor) (inbox number reading : ℕ) 
   pub kept : KeepsRules plans new
 
 -- what a turn under the lock did: one table of this inbox had it; or what is there is of another inbox, and the port took nothing
-abbrev pub HadTurn : (ℕ → Supervisor) → ℕ → ℕ → ℕ → Signal → Result TurnAnswer TurnFault → List Launched → List ToldNote → ℕ → List Launched → List ToldNote → ℕ → Type 0
+abbrev pub HadTurn : (ℕ → Option Supervisor) → ℕ → ℕ → ℕ → Signal → Result TurnAnswer TurnFault → List Launched → List ToldNote → ℕ → List Launched → List ToldNote → ℕ → Type 0
 HadTurn plans inbox number reading told result processes notes refusals more_processes more_notes later =
     LockedTurn plans inbox number reading told result (taken_by processes notes) (taken_by more_processes more_notes) refusals later
     ⊎ ((result ≡ Ok answer.Pending) × IsOfAnother plans inbox × (taken_by more_processes more_notes ≡ taken_by processes notes))
 
 -- this is what a table that keeps the rules knows of the answer to the call
-pub record HasReply (plans : ℕ → Supervisor) (call : ℕ) (found : ReplyAnswer Reply) : Type 0 where
+pub record HasReply (plans : ℕ → Option Supervisor) (call : ℕ) (found : ReplyAnswer Reply) : Type 0 where
   pub table : TableView
   pub rules : KeepsRules plans table
   pub is : IsReplyAnswer (λ r. r) call table.office.core found
 
 -- a table that keeps the rules has an answer to the call
-pub record KeepsReply (plans : ℕ → Supervisor) (call : ℕ) : Type 0 where
+pub record KeepsReply (plans : ℕ → Option Supervisor) (call : ℕ) : Type 0 where
   pub table : TableView
   pub rules : KeepsRules plans table
   pub kept : is_some (reply_of call (stored_state table.office.core).replies) ≡ true
 
 -- this is the least deadline of the children of a table that keeps the rules
-pub record HasDeadline (plans : ℕ → Supervisor) (found : Option ℕ) : Type 0 where
+pub record HasDeadline (plans : ℕ → Option Supervisor) (found : Option ℕ) : Type 0 where
   pub table : TableView
   pub rules : KeepsRules plans table
   pub is : found ≡ next_deadline (state_of table.office.core).rows
 
 -- a body was found exactly where a table that kept the rules had such a one
-pub record HadBody (plans : ℕ → Supervisor) (test : Kept → Bool) (found : Bool) : Type 0 where
+pub record HadBody (plans : ℕ → Option Supervisor) (test : Kept → Bool) (found : Bool) : Type 0 where
   pub table : TableView
   pub rules : KeepsRules plans table
   pub is : found ≡ list_any test table.bodies

@@ -1,8 +1,9 @@
 //! A table under its lock, beside its inbox.
-ghost use Rattle.std.specs.Prelude.{◌≡◌, ◌⊎◌, ◌+◌, ◌<◌, ◌≤◌, ◌↔◌, [], is_some, length, min, None, IfOk, OnErr, Ok};
+ghost use Rattle.std.specs.Prelude.{◌≡◌, ◌⊎◌, ◌+◌, ◌<◌, ◌≤◌, ◌↔◌, [], is_some, length, min, true, None, IfErr, IfOk, IsTrue, OnErr, OnOk, Ok};
 ghost use Rattle.otp_spec.specs.declared.limits.TheConstants.{MAX_READING};
 ghost use Rattle.otp_inbox.specs.Tokens.{count_limit};
-ghost use Rattle.otp_bodies.specs.Bodies.{bodies_in, is_left_of, is_stray};
+ghost use Rattle.otp_bodies.specs.Bodies.{are_ready, bodies_in, count_opened, is_left_of, is_stray};
+ghost use Rattle.otp_sup.specs.Anew.{PlannedUnder, WasUnused};
 ghost use Rattle.otp_sup.specs.Cuts.{CutWhereFull};
 ghost use Rattle.otp_sup.specs.Facts.{KeepsRules};
 ghost use Rattle.otp_office.specs.Orders.{starts_in};
@@ -15,14 +16,15 @@ ghost use Rattle.otp_office.specs.declared.turns.TurnAnswer.TheVariants as answe
 
 use crate::naming::SupNaming;
 use crate::table::Table;
-use otp_bodies::{Flushed, Letter, Message, Port, ToldEnd};
+use otp_bodies::{Bodies, Flushed, Letter, Message, Port, ToldEnd};
 use otp_core::{Core, ReplyAnswer};
 use otp_counts::Publisher;
 use otp_inbox::{Inbox, InboxNaming, Sender, Taker};
 use otp_office::{TurnAnswer, TurnFault};
 use otp_rules::Reply;
 use otp_signals::{Owner, Signal, Words, WordsNaming};
-use std::alloc::AllocError;
+use otp_spec::SupSpec;
+use std::alloc::{AllocError, Global};
 use std::marker::Model;
 use std::sync::{Mutex, Wait};
 
@@ -155,6 +157,42 @@ impl<N: SupNaming, B: Drop> Sup<N, B> {
         let table = &mut *guard;
         table.keeps_rules();
         table.take_stray()
+    }
+
+    /// Whether the supervisor had no event: see [`Table::is_unused`].
+    pub fn is_unused<R: Wait>(&self, rt: &R) -> bool
+        ensures { IsTrue result → WasUnused N.plan }
+    {
+        let guard = self.table.lock(rt);
+        let table = &*guard;
+        table.keeps_rules();
+        table.is_unused()
+    }
+
+    /// The supervisor of this plan takes the place of the one under the lock, which had no event, with the bodies of its child
+    /// specifications: see [`Table::plan_anew`]. Where that had an event, nothing changes, and plan and bodies come back.
+    pub fn plan_anew<R: Wait>(
+        &self,
+        rt: &R,
+        alloc: Global,
+        supervisor: SupSpec,
+        bodies: Bodies<B>,
+    ) -> Result<(), (SupSpec, Bodies<B>)>
+        requires free { N.plan self.now.inbox ≡ None }
+        requires bodies { are_ready (count_opened supervisor.flags supervisor.specs) bodies.kept ≡ true }
+        ensures planned { OnOk result (PlannedUnder N.plan self.now.inbox supervisor bodies.kept) }
+        ensures back { IfErr result (λ back. (back.0 ≡ supervisor) × (back.1 ≡ bodies)) }
+    {
+        let mut guard = self.table.lock(rt);
+        let table = &mut *guard;
+        table.keeps_rules();
+        // What lies under the lock is known by its type alone, which doesn't say the number of its inbox.
+        if table.number() != self.inbox.number() || !table.is_unused() {
+            return Err((supervisor, bodies));
+        }
+        table.plan_anew(alloc, supervisor, bodies);
+        table.keeps_rules();
+        Ok(())
     }
 
     /// Takes the table out of its lock, as the last turn left it. [`Unlocked::lock`] puts it back.

@@ -1,7 +1,7 @@
 //! What lies under a supervisor's lock.
 ghost use Rattle.otp_bodies.specs.Letters.{Comes, carries_body};
 ghost use Rattle.otp_bodies.specs.Messages.{message};
-ghost use Rattle.std.specs.Prelude.{◌≡◌, ◌++◌, ◌∷◌, ◌+◌, ◌≤◌, ◌<◌, [], true, false, is_some, length, min, IfErr, IfNone, IfOk, IfSome, MatchOption, None, OnOk, Some, vec_capacity};
+ghost use Rattle.std.specs.Prelude.{◌≡◌, ◌++◌, ◌∷◌, ◌+◌, ◌≤◌, ◌<◌, [], true, false, is_some, length, min, IfErr, IfNone, IfOk, IfSome, IsTrue, MatchOption, None, OnOk, Some, vec_capacity};
 ghost use Rattle.otp_inbox.specs.Tokens.{count_limit, no_shares};
 ghost use Rattle.std.specs.List.{list_any};
 ghost use Rattle.otp_spec.specs.declared.limits.TheConstants.{MAX_READING};
@@ -13,7 +13,8 @@ ghost use Rattle.otp_counts.specs.Counts.{after_publish, fresh_pass};
 ghost use Rattle.otp_bodies.specs.Bodies.{are_ready, bodies_in, bodies_sent, is_left_of, is_stray, settled, without_first, count_opened};
 ghost use Rattle.otp_sup.specs.Cuts.{WasCut};
 ghost use Rattle.otp_sup.specs.Facts.{KeepsRules};
-ghost use Rattle.otp_sup.specs.Plans.{never_opened};
+ghost use Rattle.otp_sup.specs.Plans.{IsBegunBy};
+ghost use Rattle.otp_sup.specs.Anew.{IsPlannedAnew};
 ghost use Rattle.otp_office.specs.Offices.{slot_to_start};
 ghost use Rattle.otp_office.specs.Orders.{starts_in};
 ghost use Rattle.otp_office.specs.Flushes.{FlushesTo, starts_flushed};
@@ -33,8 +34,10 @@ use otp_inbox::{Inbox, InboxNaming, Sender, Taker};
 use otp_office::{Office, TurnAnswer, TurnFault, answer_of};
 use otp_rules::{Item, Kind, Reply};
 use otp_signals::{Signal, Words, WordsNaming};
+use otp_spec::SupSpec;
 use std::alloc::{AllocError, Global};
 use std::marker::{Model, PhantomData};
+use std::mem;
 use std::sync::Wait;
 
 /// What lies under a supervisor's lock: its core with seat and orders, the taker of its inbox, the bodies that it keeps,
@@ -77,7 +80,7 @@ impl<N: SupNaming, B: Drop> Table<N, B> {
         mut bodies: Bodies<B>,
         counts: Publisher,
     ) -> Self
-        requires plan { office.core.base ≡ never_opened (N.plan taker.inbox) }
+        requires plan { IsBegunBy (N.plan taker.inbox) office.core.base }
         requires history { office.core.history ≡ [] }
         requires taken { taker.taken ≡ [] }
         requires unused { (taker.empty_finds ≡ 0) × (taker.given ≡ no_shares) }
@@ -115,9 +118,9 @@ impl<N: SupNaming, B: Drop> Table<N, B> {
     ///
     /// Besides, the words that it posted are those of the orders that were sent, in their order; a start is posted again where a
     /// port refused it. No two of its children have one slot, or one process. The counts that were published are those of its
-    /// children before the first event and after each one. And
-    /// each end of a supervisor that it was told came with a note of its history, for the note's reason, and is shown. Whoever
-    /// serves it was credited with a start for each one that it sent, and with a turn for each event and each time that its inbox
+    /// children before the first event and after each one; where the name has no plan they come behind what the place counted
+    /// before ([`Table::plan_anew`]). And each end of a supervisor that it was told came with a note of its history, for the
+    /// note's reason, and is shown. Whoever serves it was credited with a start for each one that it sent, and with a turn for each event and each time that its inbox
     /// was found empty.
     ///
     /// A checkpoint ([`Table::cut`]) drops the events so far. All of this is still said of the whole history, with the
@@ -134,6 +137,35 @@ impl<N: SupNaming, B: Drop> Table<N, B> {
         ensures { result ≡ self.now.taker.inbox }
     {
         self.taker.number()
+    }
+
+    /// Whether it had no event.
+    pub fn is_unused(&self) -> bool
+        ensures { IsTrue result → self.now.office.core.history ≡ [] }
+    {
+        let _ = &self.taker;
+        self.office.is_unused()
+    }
+
+    /// The supervisor of this plan takes the place of this one, which had no event ([`Table::is_unused`]), with the bodies of its
+    /// child specifications: one at least for each child that an opening makes. What it counts is published. The seat stays, and so
+    /// does the inbox with what stands in it. Takes no memory; the bodies that were there are dropped.
+    pub fn plan_anew(&mut self, alloc: Global, supervisor: SupSpec, mut bodies: Bodies<B>)
+        requires history { self.old.office.core.history ≡ [] }
+        // The name has no plan for it: of one that has a plan all that was published is counted along its history.
+        requires free { N.plan self.old.taker.inbox ≡ None }
+        requires bodies { are_ready (count_opened supervisor.flags supervisor.specs) bodies.kept ≡ true }
+        ensures { IsPlannedAnew supervisor bodies.kept self.old self.new }
+    {
+        let _ = &self.taker;
+        bodies.has_one_each();
+        // No child has any of them yet, and no call waits.
+        bodies.settle(&[], false);
+        self.office.plan_anew(alloc, supervisor);
+        self.office.keeps_rules();
+        let old = mem::replace(&mut self.bodies, bodies);
+        drop(old);
+        publish(&self.office, &mut self.counts);
     }
 
     /// One turn of the supervisor, under the process number that it is to have, at this reading of the clock in

@@ -1,5 +1,5 @@
 // A supervisor's table without its lock, driven by hand: a turn at a time, and an order at a time, over a port in memory.
-ghost use Rattle.std.specs.Prelude.{◌≡◌, ◌≤◌, ◌<◌, ◌^◌};
+ghost use Rattle.std.specs.Prelude.{◌≡◌, ◌≤◌, ◌<◌, ◌^◌, Some};
 
 use crate::fixtures::{Post, got, hand_in_all, has_told_end, same, seat_table};
 use crate::script::{Known, Stand, Step, known_of};
@@ -37,7 +37,7 @@ pub(crate) fn make_table<N: SupNaming, R: Abort>(
     requires words { words.words ≡ N.words }
     requires slots { words.slots ≡ 256 }
     requires inbox { inbox ≡ N.inbox 0 }
-    requires plan { supervisor ≡ N.plan 0 }
+    requires plan { N.plan 0 ≡ Some supervisor }
 {
     let bodies = hand_in_all(rt, alloc, own);
     let (words, mut owner) = words.named::<N>();

@@ -1,5 +1,5 @@
 // Calls that two clients send from threads of their own, while a third thread takes turns of the supervisor.
-ghost use Rattle.std.specs.Prelude.{◌≡◌};
+ghost use Rattle.std.specs.Prelude.{◌≡◌, Some};
 
 use crate::driven::{Driven, make_driven};
 use crate::fixtures::{Post, childless, got, open_parts, same};
@@ -37,7 +37,7 @@ fn clients_in<
     requires words { words.words ≡ N.words }
     requires slots { words.slots ≡ 256 }
     requires inbox { inbox ≡ N.inbox 0 }
-    requires plan { supervisor ≡ N.plan 0 }
+    requires plan { N.plan 0 ≡ Some supervisor }
 {
     let Driven {
         words,

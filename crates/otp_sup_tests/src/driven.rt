@@ -2,7 +2,7 @@
 //
 // Under `rt try --test --fail-alloc N` memory is refused once: nothing has happened then, and the same with memory does what
 // it would have done.
-ghost use Rattle.std.specs.Prelude.{◌≡◌, ◌≤◌, ◌^◌};
+ghost use Rattle.std.specs.Prelude.{◌≡◌, ◌≤◌, ◌^◌, Some};
 
 use crate::fixtures::{Post, got, hand_in_all, has_told_end, open_parts, same, seat_table, second};
 use crate::script::{Known, Stand, Step, known_of, play};
@@ -47,7 +47,7 @@ pub(crate) fn make_driven<N: SupNaming, R: Abort>(
     requires words { words.words ≡ N.words }
     requires slots { words.slots ≡ 256 }
     requires inbox { inbox ≡ N.inbox 0 }
-    requires plan { supervisor ≡ N.plan 0 }
+    requires plan { N.plan 0 ≡ Some supervisor }
 {
     let bodies = hand_in_all(rt, alloc, own);
     let (words, mut owner) = words.named::<N>();
@@ -253,7 +253,7 @@ fn play_under_lock<N: WordsNaming + InboxNaming + PlanNaming, R: Wait + Abort>(
     requires words { words.words ≡ N.words }
     requires slots { words.slots ≡ 256 }
     requires inbox { inbox ≡ N.inbox 0 }
-    requires plan { supervisor ≡ N.plan 0 }
+    requires plan { N.plan 0 ≡ Some supervisor }
 {
     let mut one = make_driven::<N, _>(rt, alloc, words, inbox, supervisor, own, 100);
     play(rt, alloc, &mut one, steps);

@@ -2,7 +2,7 @@
 // on a table alone or on a supervisor under its lock.
 //
 // So what a step asks is proved once, and not for each test.
-ghost use Rattle.std.specs.Prelude.{◌≡◌, ◌≤◌, ◌^◌, true};
+ghost use Rattle.std.specs.Prelude.{◌≡◌, ◌≤◌, ◌^◌, true, Some};
 ghost use Rattle.otp_rules.specs.Homes.{is_start_call};
 
 use crate::alone::{Alone, make_table};
@@ -320,7 +320,7 @@ fn play_in<N: WordsNaming + InboxNaming + PlanNaming, R: Wait + Abort>(
     requires words { words.words ≡ N.words }
     requires slots { words.slots ≡ 256 }
     requires inbox { inbox ≡ N.inbox 0 }
-    requires plan { supervisor ≡ N.plan 0 }
+    requires plan { N.plan 0 ≡ Some supervisor }
 {
     let mut one = make_table::<N, _>(rt, alloc, words, inbox, supervisor, own);
     play(rt, alloc, &mut one, steps);

@@ -1,5 +1,5 @@
 // What lies under a supervisor's lock, without the lock: a turn at a time, and an order at a time, over a port in memory.
-ghost use Rattle.std.specs.Prelude.{◌≡◌};
+ghost use Rattle.std.specs.Prelude.{◌≡◌, Some};
 
 use crate::alone::make_table;
 use crate::fixtures::{OWN, Post, got, of_one_child, open_parts, same};
@@ -127,7 +127,7 @@ fn read_beside<N: WordsNaming + InboxNaming + PlanNaming, R: Threads + Wait + Ab
     requires words { words.words ≡ N.words }
     requires slots { words.slots ≡ 256 }
     requires inbox { inbox ≡ N.inbox 0 }
-    requires plan { supervisor ≡ N.plan 0 }
+    requires plan { N.plan 0 ≡ Some supervisor }
 {
     let mut one = make_table::<N, _>(rt, alloc, words, inbox, supervisor, &[OWN]);
     play(rt, alloc, &mut one, &[Step::Opens(1)]);

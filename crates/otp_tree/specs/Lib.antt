@@ -3,3 +3,4 @@ pub mod Hearings
 pub mod Happenings
 pub mod Servings
 pub mod Callings
+pub mod Adds

@@ -1,12 +1,12 @@
 //! Calls of the supervisors of a running tree: start_child, which_children and the other functions that OTP's `supervisor`
 //! exports.
-ghost use Rattle.std.specs.Prelude.{◌≡◌, ◌<◌, ◌≤◌, None, Ok, is_some, true, IfErr, IfOk, OnOk, length};
+ghost use Rattle.std.specs.Prelude.{◌≡◌, ◌<◌, ◌≤◌, None, Ok, is_some, false, true, IfErr, IfOk, IsTrue, OnErr, OnOk, length};
 ghost use Rattle.otp_rules.specs.Homes.{is_start_call};
 ghost use Rattle.otp_core.specs.declared.reply.ReplyAnswer.TheVariants as answer;
 ghost use Rattle.otp_bodies.specs.Bodies.{is_left_of};
 ghost use Rattle.otp_sup.specs.Turns.{HadBody, HasReply};
 ghost use Rattle.otp_hand.specs.Standings.{reach_of};
-ghost use Rattle.otp_tree.specs.Callings.{Called, IsNotSent, IsUnsendable, fits_call, is_no_table, is_of_type};
+ghost use Rattle.otp_tree.specs.Callings.{Called, IsNotSent, IsUnsendable, Reaches, fits_call, has_time, is_nested, is_no_table, is_of_type};
 
 use crate::system::System;
 use otp_core::ReplyAnswer;
@@ -15,7 +15,7 @@ use otp_inbox::{Inbox, InboxNaming};
 use otp_job::Body;
 use otp_rules::{Call, Reply};
 use otp_signals::{Words, WordsNaming};
-use otp_spec::ChildType;
+use otp_spec::{ChildType, Shutdown};
 use otp_sup::{Letter, Message, SupNaming};
 use std::alloc::{AllocError, Global};
 use std::sync::Wait;
@@ -23,16 +23,22 @@ use std::sync::Wait;
 /// Why a call was not sent: the first of these that is so.
 #[derive(Clone, Copy, Debug, PartialEq, Eq)]
 pub enum CallRefusal {
-    /// The tree has no supervisor of this number.
+    /// E21: the tree has no supervisor of this number.
     NoSupervisor,
     /// E19: a call that starts a child has no body, or one that the child may not run, or another call has one. A worker
-    /// runs a job or a bridge, a supervisor that a call starts a bridge.
+    /// runs a job or a bridge; a supervisor runs a bridge, or is the top of supervisors that were added ([`System::add_tree`]).
     WrongBody,
+    /// E16: the child is a supervisor that was added, and has less time to shut down than it wants.
+    NotInfinity,
     /// E9: the client may draw no more numbers.
     Exhausted,
     /// E0: memory was refused. A number was drawn, and is spent.
     OutOfMemory,
 }
+
+/// E21: the tree has no supervisor of this number.
+#[derive(Clone, Copy, Debug, PartialEq, Eq)]
+pub struct NoTable;
 
 /// A call that was not sent, with the body that came with it.
 #[derive(Drop)]
@@ -42,6 +48,35 @@ pub struct Uncalled<B> {
 }
 
 impl<N: SupNaming, J: Drop, S: Drop> System<N, J, S> {
+    /// Whether a client can call the supervisor with this number.
+    ///
+    /// # Errors
+    ///
+    /// [`NoTable`]: the tree has none of this number.
+    pub fn reach(&self, client: &Client<N, Body<J, S>>, table: usize) -> Result<(), NoTable>
+        ensures ok { OnOk result (Reaches self.now.tables table client.now) }
+        ensures planned { OnErr result (Reaches self.now.tables table client.now → ¬ (is_some (N.plan table) ≡ true)) }
+    {
+        if table < client.senders.len() && self.has_table(table) {
+            Ok(())
+        } else {
+            Err(NoTable)
+        }
+    }
+
+    /// Whether it is no supervisor, or the top of some that were added.
+    fn has_added(&self, body: &Option<Body<J, S>>) -> bool
+        ensures { is_nested body.now ≡ false → IsTrue result }
+    {
+        let Some(Body::Sup(top)) = body else {
+            return true;
+        };
+        match &self.growth {
+            Some(growth) => growth.has_top(top.number()),
+            None => false,
+        }
+    }
+
     /// Sends a call to the supervisor with this number, with a body exactly where it starts a new child
     /// (supervisor, start_child/2), and answers the number of the call. The supervisor takes it in one of its turns; then
     /// [`System::reply`] has the answer under this number.
@@ -60,16 +95,20 @@ impl<N: SupNaming, J: Drop, S: Drop> System<N, J, S> {
         ensures sent { IfOk result (λ number. Called table number call client.old client.new) }
         ensures fits { OnOk result (fits_call call body ≡ true) }
         ensures there { OnOk result (table < self.now.tables) }
-        ensures refused { IfErr result (λ fault. IsNotSent fault.cause self.now.tables table (fits_call call body) client.old client.new) }
+        ensures in_time { OnOk result (has_time call body ≡ true) }
+        ensures refused { IfErr result (λ fault. IsNotSent fault.cause N.plan self.now.tables table call body client.old client.new) }
         ensures back { IfErr result (λ fault. fault.body ≡ body) }
         // The client sends to whom it did, by as many parts of the right to send.
         ensures reach { reach_of client.new ≡ reach_of client.old }
     {
-        if table >= self.shared.sups.len() || table >= client.senders.len() {
+        if let Err(_) = self.reach(client, table) {
             return Err(not_called(CallRefusal::NoSupervisor, body));
         }
-        if !fits_call(&call, &body) {
+        if !fits_call(&call, &body) || !self.has_added(&body) {
             return Err(not_called(CallRefusal::WrongBody, body));
+        }
+        if !has_time(&call, &body) {
+            return Err(not_called(CallRefusal::NotInfinity, body));
         }
         send_call(
             rt,
@@ -170,7 +209,18 @@ fn is_of_type<J: Drop, S: Drop>(kind: ChildType, body: &Body<J, S>) -> bool
         (ChildType::Worker, Body::Worker(_)) => true,
         (_, Body::Bridge(_)) => true,
         (ChildType::Supervisor, Body::Worker(_)) => false,
-        (_, Body::Sup(_)) => false,
+        (ChildType::Supervisor, Body::Sup(_)) => true,
+        (ChildType::Worker, Body::Sup(_)) => false,
+    }
+}
+
+/// Whether a child that is a supervisor of its own has as much time to shut down as it wants.
+fn has_time<J: Drop, S: Drop>(call: &Call, body: &Option<Body<J, S>>) -> bool
+    ensures { result ≡ has_time call.now body.now }
+{
+    match (call, body) {
+        (Call::StartChild(spec), Some(Body::Sup(_))) => matches!(spec.shutdown, Shutdown::Infinity),
+        (_, _) => true,
     }
 }
 

@@ -1,6 +1,6 @@
 //! A tree is closed, once all its hands and its client are back.
 ghost use Rattle.std.specs.Prelude.{◌≡◌, ◌+◌, All, IfErr, IfOk, IfSome, OnSome, length, map, sum_by};
-ghost use Rattle.otp_close.specs.Closes.{AreApart, HasBegun, HasTold, HaveBegun, IsComplete, IsMismatchOnly, IsMissingOnly, IsReportOf, NoneMissing, all_senders, kept_in, report_in};
+ghost use Rattle.otp_close.specs.Closes.{AreApart, HasTables, HasBegun, HasTold, HaveBegun, IsComplete, IsMismatchOnly, IsMissingOnly, IsReportOf, NoneMissing, all_senders, kept_in, report_in};
 ghost use Rattle.otp_close.specs.Leavings.{AreAccounted, AreInOrder, HasUnsent, HaveCome, IsLast, IsLastInOrder};
 ghost use Rattle.otp_close.specs.Partings.{schedulers_of};
 ghost use Rattle.otp_close.specs.Tables.{AreOfTables};
@@ -9,8 +9,10 @@ ghost use Rattle.otp_hand.specs.Ended.{held_by};
 ghost use Rattle.otp_report.specs.Tellings.{AreSo};
 ghost use Rattle.otp_run.specs.Gathers.{IsLiveTotal, begun_of, ended_of};
 ghost use Rattle.otp_run.specs.Rule.{ticket_of};
+ghost use Rattle.otp_sup.specs.Plans.{AreAllPlanned};
 ghost use Rattle.otp_tree.specs.Closes.{IsAsItWas};
 
+use crate::growth::Growth;
 use crate::system::System;
 use otp_close::{CloseFault, Intact, close, finish};
 use otp_hand::{Client, Hand, TreeNaming};
@@ -55,7 +57,8 @@ impl<N: SupNaming, J: Drop, S: Drop> System<N, J, S> {
         N: RunNaming,
         // All parts were there, if there is a report.
         ensures complete { OnSome (report_in result) (IsComplete self hands.items client) }
-        ensures count { IfSome (report_in result) (λ report. length report.tables.items ≡ self.tables) }
+        // It has each supervisor that the tree was opened with, and those that were added; places that never had one are left out.
+        ensures count { IfSome (report_in result) (λ report. HasTables N.plan self.tables (length report.tables.items)) }
         // Each process that a hand put was found or is left, and what is live is what is left and what hands have out.
         ensures live { IfSome (report_in result) (λ report. IsLiveTotal (schedulers_of hands.items) report.live (map ticket_of report.processes.items)) }
         ensures begun { IfSome (report_in result) (λ report. report.begun ≡ sum_by begun_of (schedulers_of hands.items)) }
@@ -97,15 +100,23 @@ impl<N: SupNaming, J: Drop, S: Drop> System<N, J, S> {
         ensures missing { IfErr result (IsMissingOnly (IsComplete self hands.items client)) }
         ensures back { IfErr result (λ fault. IfSome (kept_in fault) (IsAsItWas self hands.items client)) }
     {
-        match close(rt, alloc, self.shared, hands, client) {
-            Ok(report) => Ok(report),
-            Err(CloseFault::Mismatch(mismatch, report)) => Err(CloseFault::Mismatch(
-                mismatch, report,
-            )),
-            Err(CloseFault::OutOfMemory(tree)) => Err(CloseFault::OutOfMemory(given_back(tree))),
-            Err(CloseFault::Missing(tree)) => Err(CloseFault::Missing(given_back(tree))),
+        let known = self.known(rt);
+        let System { shared, growth } = self;
+        match close(rt, alloc, shared, hands, client, known) {
+            Ok(report) => {
+                drop(growth);
+                Ok(report)
+            }
+            Err(CloseFault::Mismatch(mismatch, report)) => {
+                drop(growth);
+                Err(CloseFault::Mismatch(mismatch, report))
+            }
+            Err(CloseFault::OutOfMemory(tree)) => {
+                Err(CloseFault::OutOfMemory(given_back(tree, growth)))
+            }
+            Err(CloseFault::Missing(tree)) => Err(CloseFault::Missing(given_back(tree, growth))),
             Err(CloseFault::Misplaced(tree, found)) => {
-                Err(CloseFault::Misplaced(given_back(tree), found))
+                Err(CloseFault::Misplaced(given_back(tree, growth), found))
             }
         }
     }
@@ -121,18 +132,24 @@ impl<N: SupNaming, J: Drop, S: Drop> System<N, J, S> {
     ) -> Result<Report<J, S>, CloseFault<J, S, ()>>
     where
         N: RunNaming,
-        ensures report { IfOk result (IsReportOf self.tables) }
+        ensures report { AreAllPlanned N.plan self.tables → IfOk result (IsReportOf self.tables) }
         ensures plans { IfSome (report_in result) (λ report. HaveBegun N.plan report.tables.items) }
         ensures mismatch { IfErr result IsMismatchOnly }
         // Of a tree that is whole no part is said to be missing.
         ensures missing { IsComplete self hands.items client → IfErr result NoneMissing }
     {
-        finish(rt, alloc, self.shared, hands, client)
+        let known = self.known(rt);
+        let System { shared, growth } = self;
+        drop(growth);
+        finish(rt, alloc, shared, hands, client, known)
     }
 }
 
 /// The tree as whoever opened it has it.
-fn given_back<N: TreeNaming, J: Drop, S: Drop>(tree: Intact<N, J, S>) -> Unclosed<N, J, S>
+fn given_back<N: TreeNaming, J: Drop, S: Drop>(
+    tree: Intact<N, J, S>,
+    growth: Option<Growth<N>>,
+) -> Unclosed<N, J, S>
     ensures { IsAsItWas tree.shared tree.hands.items tree.client result }
 {
     let Intact {
@@ -141,7 +158,7 @@ fn given_back<N: TreeNaming, J: Drop, S: Drop>(tree: Intact<N, J, S>) -> Unclose
         client,
     } = tree;
     Unclosed {
-        system: System { shared },
+        system: System { shared, growth },
         hands,
         client,
     }

@@ -58,6 +58,8 @@
 //! turns, [`System::root_note`] is the next thing that the root tells, [`System::submit`] calls a supervisor and
 //! [`System::reply`] has its answer, [`System::stop`] asks the root to shut down, and [`System::close`] takes the tree apart
 //! and reports.
+//! Where the tree is opened by [`with_growing_system`] a session can add supervisors to it ([`System::add_tree`]), and then start the
+//! first of them as somebody's child.
 //! `crates/otp_uses/src/tree.rt` has a whole session, with its job and its plan. The prover doesn't cover a call of
 //! [`pool_run`] in a trait's method yet, so a session serves hand by hand.
 //!
@@ -65,10 +67,12 @@
 //! its parent's `shutdown`, and the root's note is what its parent hears (OTP Design Principles, Supervisor Behaviour).
 #![tactic(auto)]
 
+pub mod adding;
 pub mod calling;
 pub mod clock;
 pub mod closing;
 mod finding;
+mod growth;
 pub mod happening;
 pub mod listener;
 mod meeting;
@@ -80,7 +84,8 @@ pub mod session;
 pub mod system;
 pub mod whole;
 
-pub use calling::{CallRefusal, Uncalled};
+pub use adding::{AddFault, Unadded};
+pub use calling::{CallRefusal, NoTable, Uncalled};
 pub use clock::{Gate, Millis};
 pub use closing::Unclosed;
 pub use happening::Happening;
@@ -92,6 +97,6 @@ pub use otp_open::{SystemFault, TableDraft, TablePlan, Unplanned};
 pub use otp_report::{Mismatch, Report, TableReport};
 pub use pool::{MAX_HANDS, pool_run};
 pub use rounds::{CallEnd, CallId, CallRequest, Leader, Led, Round, lead};
-pub use session::{Session, with_system};
+pub use session::{Session, with_growing_system, with_system};
 pub use system::System;
 pub use whole::{CountedRun, RunFault, run_tree, run_tree_counted};

@@ -1,5 +1,5 @@
 //! A tree is opened: its parts without a name first, then the tree under a name.
-ghost use Rattle.std.specs.Prelude.{◌≡◌, ◌+◌, ◌*◌, ◌<◌, ◌≤◌, [], IfErr, IfOk, OnOk, length, is_some, true};
+ghost use Rattle.std.specs.Prelude.{◌≡◌, ◌+◌, ◌*◌, ◌<◌, ◌≤◌, ℕ, None, [], IfErr, IfOk, IfSome, OnOk, length, is_some, true};
 ghost use Rattle.otp_spec.specs.declared.limits.TheConstants.{MAX_TABLES};
 ghost use Rattle.otp_close.specs.Closes.{IsReached, all_senders};
 ghost use Rattle.otp_close.specs.Partings.{schedulers_of};
@@ -8,8 +8,9 @@ ghost use Rattle.otp_run.specs.Lists.{AllAt};
 ghost use Rattle.otp_run.specs.Rule.{all_parts};
 ghost use Rattle.otp_open.specs.Opens.{AreOpened, root_ticket, slots_of};
 ghost use Rattle.otp_open.specs.Passes.{CanRead};
-ghost use Rattle.otp_open.specs.Plans.{HaveBodies, IsOpenFault};
+ghost use Rattle.otp_open.specs.Plans.{ArePlanned, HaveBodies, IsOpenFault};
 
+use crate::growth::Growth;
 use crate::system::System;
 use otp_counts::CountsPass;
 use otp_hand::{Client, Hand, ROOT_NUMBER, ROOT_SLOT, Shared, TreeNaming};
@@ -94,7 +95,7 @@ impl<J: Drop, S: Drop> Parts<J, S> {
     pub fn named<N: TreeNaming>(self, alloc: Global) -> Result<Opened<N, J, S>, SystemFault>
         requires words { self.words.words ≡ N.words }
         requires inboxes { AllAt (λ k id. id ≡ N.inbox k) self.inboxes.items }
-        requires plans { AllAt (λ k plan. plan.supervisor ≡ N.plan k) self.plans.items }
+        requires plans { ArePlanned N.plan self.plans.items }
         requires as_many { length self.plans.items ≡ length self.inboxes.items }
         requires outer { self.outer ≡ N.inbox (length self.inboxes.items) }
         requires deques { AllAt (λ k id. id ≡ N.deque k) self.queue }
@@ -148,10 +149,58 @@ impl<J: Drop, S: Drop> Parts<J, S> {
         )?;
         let client = Client::first(owner, senders, waiter);
         Ok(Opened {
-            system: System { shared },
+            system: System {
+                shared,
+                growth: None,
+            },
             hands,
             client,
             passes,
         })
+    }
+
+    /// The same, where so many supervisors are there at first, and others can be added ([`System::add_tree`]).
+    pub(crate) fn named_growing<N: TreeNaming>(
+        self,
+        alloc: Global,
+        opened: usize,
+    ) -> Result<Opened<N, J, S>, SystemFault>
+        requires words { self.words.words ≡ N.words }
+        requires inboxes { AllAt (λ k id. id ≡ N.inbox k) self.inboxes.items }
+        requires plans { ArePlanned N.plan self.plans.items }
+        requires free { (k : ℕ) → opened ≤ k → N.plan k ≡ None }
+        requires as_many { length self.plans.items ≡ length self.inboxes.items }
+        requires outer { self.outer ≡ N.inbox (length self.inboxes.items) }
+        requires deques { AllAt (λ k id. id ≡ N.deque k) self.queue }
+        requires slots { self.words.slots ≡ slots_of (length self.inboxes.items) }
+        requires few { length self.inboxes.items ≤ MAX_TABLES }
+        ensures bodies { OnOk result (HaveBodies self.plans.items) }
+        ensures fault { IfErr result (IsOpenFault self.plans.items) }
+        ensures tables { IfOk result (λ o. o.system.tables ≡ length self.inboxes.items) }
+    {
+        let Ok(growth) = Growth::open(alloc, opened) else {
+            drop(self);
+            return Err(SystemFault::OutOfMemory);
+        };
+        match self.named::<N>(alloc) {
+            Ok(all) => {
+                let Opened {
+                    system,
+                    hands,
+                    client,
+                    passes,
+                } = all;
+                Ok(Opened {
+                    system: system.growing(growth),
+                    hands,
+                    client,
+                    passes,
+                })
+            }
+            Err(fault) => {
+                drop(growth);
+                Err(fault)
+            }
+        }
     }
 }

@@ -125,7 +125,7 @@ impl<N: SupNaming, J: Job, S: Subsystem> System<N, J, S> {
         ensures passes { hand.new.passes ≡ hand.old.passes }
         ensures standing { standing_of hand.new ≡ standing_of hand.old }
     {
-        let Some(sup) = self.shared.sups.get(table) else {
+        let Some(sup) = self.sup(table) else {
             return;
         };
         let begun = hand.runner.scheduler.share().begun;

@@ -1,17 +1,17 @@
 //! A tree for one call: the name is picked here, so that no caller has to.
-ghost use Rattle.std.specs.Prelude.{◌≡◌, ◌<◌, ◌≤◌, length, IfErr, OnOk};
+ghost use Rattle.std.specs.Prelude.{◌≡◌, ◌<◌, ◌≤◌, ℕ, None, length, IfErr, OnOk};
 ghost use Rattle.otp_spec.specs.declared.limits.TheConstants.{MAX_TABLES};
 ghost use Rattle.otp_run.specs.Lists.{AllAt};
 ghost use Rattle.otp_run.specs.Rule.{all_parts};
 ghost use Rattle.otp_open.specs.Opens.{slots_of};
-ghost use Rattle.otp_open.specs.Plans.{HaveBodies, IsOpenFault};
+ghost use Rattle.otp_open.specs.Plans.{ArePlanned, HaveBodies, IsOpenFault};
 
 use crate::opening::{Opened, Parts};
 use crate::system::System;
 use otp_hand::{Client, Hand, TreeNaming};
 use otp_inbox::InboxNaming;
 use otp_job::Body;
-use otp_open::{SystemFault, TablePlan};
+use otp_open::{SystemFault, TablePlan, with_spares};
 use otp_run::RunNaming;
 use otp_signals::WordsNaming;
 use otp_sup::PlanNaming;
@@ -65,7 +65,7 @@ fn run_named<
 >(rt: &R, alloc: Global, parts: Parts<J, S>, session: T) -> Result<T::Output, SystemFault>
     requires words { parts.words.words ≡ N.words }
     requires inboxes { AllAt (λ k id. id ≡ N.inbox k) parts.inboxes.items }
-    requires plans { AllAt (λ k plan. plan.supervisor ≡ N.plan k) parts.plans.items }
+    requires plans { ArePlanned N.plan parts.plans.items }
     requires as_many { length parts.plans.items ≡ length parts.inboxes.items }
     requires outer { parts.outer ≡ N.inbox (length parts.inboxes.items) }
     requires deques { AllAt (λ k id. id ≡ N.deque k) parts.queue }
@@ -87,6 +87,83 @@ fn run_named<
         client,
         passes,
     } = opened;
+    drop(passes);
+    Ok(session.run::<N>(rt, system, hands, client))
+}
+
+/// Opens a tree for 1 to 8 hands that has places for so many supervisors, 1 to 64, and runs a session with it. The first have those of
+/// the plans, the root first; to the others supervisors can be added while it runs ([`System::add_tree`]).
+///
+/// Each place has an inbox, a way to it in each hand and client, 256 signal words, and a word for its counts from the opening on.
+pub fn with_growing_system<R, J: Drop, S: Drop, T: Session<R, J, S>>(
+    rt: &R,
+    alloc: Global,
+    plans: Vec<TablePlan<J, S>>,
+    places: usize,
+    hands: usize,
+    session: T,
+) -> Result<T::Output, SystemFault>
+    requires tables { length plans.items ≤ places }
+    requires places { places ≤ MAX_TABLES }
+    requires some { 0 < hands }
+    requires few { hands ≤ all_parts }
+    ensures bodies { OnOk result (HaveBodies plans.items) }
+    ensures fault { IfErr result (IsOpenFault plans.items) }
+{
+    let opened = plans.len();
+    let all = match with_spares(alloc, plans, places) {
+        Ok(all) => all,
+        Err(plans) => {
+            drop(plans);
+            drop(session);
+            return Err(SystemFault::OutOfMemory);
+        }
+    };
+    let Ok(parts) = Parts::open(alloc, all, hands) else {
+        drop(session);
+        return Err(SystemFault::OutOfMemory);
+    };
+    run_growing::<Brand, R, J, S, T>(rt, alloc, parts, opened, session)
+}
+
+fn run_growing<
+    N: WordsNaming + InboxNaming + PlanNaming + RunNaming + Send + Sync,
+    R,
+    J: Drop,
+    S: Drop,
+    T: Session<R, J, S>,
+>(
+    rt: &R,
+    alloc: Global,
+    parts: Parts<J, S>,
+    opened: usize,
+    session: T,
+) -> Result<T::Output, SystemFault>
+    requires words { parts.words.words ≡ N.words }
+    requires inboxes { AllAt (λ k id. id ≡ N.inbox k) parts.inboxes.items }
+    requires plans { ArePlanned N.plan parts.plans.items }
+    requires free { (k : ℕ) → opened ≤ k → N.plan k ≡ None }
+    requires as_many { length parts.plans.items ≡ length parts.inboxes.items }
+    requires outer { parts.outer ≡ N.inbox (length parts.inboxes.items) }
+    requires deques { AllAt (λ k id. id ≡ N.deque k) parts.queue }
+    requires slots { parts.words.slots ≡ slots_of (length parts.inboxes.items) }
+    requires few { length parts.inboxes.items ≤ MAX_TABLES }
+    ensures bodies { OnOk result (HaveBodies parts.plans.items) }
+    ensures fault { IfErr result (IsOpenFault parts.plans.items) }
+{
+    let all = match parts.named_growing::<N>(alloc, opened) {
+        Ok(all) => all,
+        Err(fault) => {
+            drop(session);
+            return Err(fault);
+        }
+    };
+    let Opened {
+        system,
+        hands,
+        client,
+        passes,
+    } = all;
     drop(passes);
     Ok(session.run::<N>(rt, system, hands, client))
 }

@@ -1,14 +1,16 @@
 //! The tree: its supervisors, which the hands share.
-ghost use Rattle.std.specs.Prelude.{◌≡◌, ◌↔◌, ◌<◌, is_some, length, true, IfNone, IfSome};
+ghost use Rattle.std.specs.Prelude.{◌≡◌, ◌↔◌, ◌<◌, ◌≤◌, is_some, length, true, IfNone, IfSome, IsTrue};
 ghost use Rattle.otp_signals.specs.Holdings.{after_post};
 ghost use Rattle.otp_signals.specs.Signals.{word_of};
 ghost use Rattle.otp_signals.specs.declared.signal.Signal.TheVariants.{Shutdown};
+ghost use Rattle.otp_close.specs.Closes.{IsFreeFrom};
 ghost use Rattle.otp_hand.specs.declared.client.TheConstants.{ROOT_NUMBER, ROOT_SLOT};
 ghost use Rattle.otp_hand.specs.Hands.{Heard};
 ghost use Rattle.otp_hand.specs.Readings.{HasRead};
 ghost use Rattle.otp_hand.specs.Standings.{reach_of};
 ghost use Rattle.otp_tree.specs.Hearings.{HeardNothing};
 
+use crate::growth::Growth;
 use otp_hand::ending::count_end;
 use otp_hand::places::said_in;
 use otp_hand::{Client, Hand, Shared};
@@ -16,7 +18,7 @@ use otp_job::Body;
 use otp_reason::Note;
 use otp_rules::{CountsNow, Item};
 use otp_run::RunNaming;
-use otp_sup::SupNaming;
+use otp_sup::{Sup, SupNaming};
 use std::marker::Model;
 use std::sync::Wait;
 
@@ -24,6 +26,8 @@ use std::sync::Wait;
 #[derive(Drop)]
 pub struct System<N: SupNaming, J: Drop, S: Drop> {
     pub(crate) shared: Shared<N, J, S>,
+    /// None where no supervisor can be added.
+    pub(crate) growth: Option<Growth<N>>,
 }
 
 impl<N: SupNaming, J: Drop, S: Drop> Model for System<N, J, S> {
@@ -35,11 +39,67 @@ impl<N: SupNaming, J: Drop, S: Drop> Model for System<N, J, S> {
 }
 
 impl<N: SupNaming, J: Drop, S: Drop> System<N, J, S> {
-    /// How many supervisors the tree has.
-    pub fn tables(&self) -> usize
+    /// How many supervisors the tree can have: so many places there are.
+    pub fn places(&self) -> usize
         ensures { result ≡ self.now.tables }
     {
         self.shared.tables()
+    }
+
+    /// How many supervisors the tree has: those that it was opened with, and those that were added, as far as a walk over what was
+    /// added meets them.
+    pub fn tables(&self) -> usize
+        ensures { result ≤ self.now.tables }
+    {
+        let places = self.shared.tables();
+        match &self.growth {
+            None => places,
+            Some(growth) => growth.count().min(places),
+        }
+    }
+
+    /// Whether the tree has the supervisor with this number.
+    pub fn has_table(&self, table: usize) -> bool
+        ensures within { IsTrue result → table < self.now.tables }
+        ensures planned { is_some (N.plan table) ≡ true → table < self.now.tables → IsTrue result }
+    {
+        if table >= self.shared.tables() {
+            return false;
+        }
+        match &self.growth {
+            None => true,
+            Some(growth) => growth.has(table),
+        }
+    }
+
+    /// The supervisor with this number, if the tree has it.
+    pub(crate) fn sup(&self, table: usize) -> Option<&Sup<N, Body<J, S>>> {
+        if self.has_table(table) {
+            self.shared.sups.get(table)
+        } else {
+            None
+        }
+    }
+
+    /// The same tree, to which supervisors can be added.
+    pub(crate) fn growing(self, growth: Growth<N>) -> Self
+        ensures { result ≡ self }
+    {
+        let System { shared, growth: _ } = self;
+        System {
+            shared,
+            growth: Some(growth),
+        }
+    }
+
+    /// How many of its places have a supervisor, at least: no other had a plan when the tree got its name.
+    pub(crate) fn known<R: Wait>(&self, rt: &R) -> usize
+        ensures { IsFreeFrom N.plan self.now.tables result }
+    {
+        match &self.growth {
+            None => self.shared.tables(),
+            Some(growth) => growth.known(rt),
+        }
     }
 
     /// Asks the root to shut down: it stops its children, and ends. False, and nothing happens, where this isn't the

@@ -11,6 +11,8 @@ mod fixtures;
 #[cfg(test)]
 mod gates;
 #[cfg(test)]
+mod grows;
+#[cfg(test)]
 mod guests;
 #[cfg(test)]
 mod lives;

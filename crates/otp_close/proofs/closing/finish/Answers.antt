@@ -1,19 +1,20 @@
-use Rattle.std.proofs.Common.{◌+◌, ◌∙◌, ap, refl, sym, subst, arith}
+use Rattle.std.proofs.Common.{◌+◌, ◌∙◌, ap, length, refl, sym, subst, arith}
 use Rattle.std.specs.Prelude.{IfSome}
 use Rattle.std.proofs.lemmas.List.{length-map}
 use Rattle.otp_run.specs.Rule.{ticket_of}
 use Rattle.otp_close.specs.Closes.{HaveBegun, IsComplete}
 use Rattle.otp_close.proofs.Refusals.{none_missing}
+use Rattle.otp_close.proofs.SparePlaces.{all_tables}
 use Rattle.otp_close.proofs.Standings.{complete_kept}
 use Rattle.otp_close.proofs.closing.finish.Goals as goal
 
 pub returns-in-Ok-clause-report : goal.returns-in-Ok-clause-report
-returns-in-Ok-clause-report g c =
+returns-in-Ok-clause-report g c = λ all.
     let e = c.in-Ok.ensures {u = tt} in
     let report = c.in-Ok.report in
     let total = e.live in
     record {
-      count = e.count;
+      count = all_tables g.N.PlanNaming.plan c.args.shared.tables (length report.tables.items) e.count all;
       begins = e.begins;
       shown = e.shown;
       apart = e.apart;

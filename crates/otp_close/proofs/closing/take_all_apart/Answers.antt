@@ -3,7 +3,7 @@ use Rattle.otp_inbox.specs.Lists.{AsOften, EachInOrder}
 use Rattle.otp_run.specs.Lists.{AllAt}
 use Rattle.otp_run.proofs.Places.{push_at}
 use Rattle.otp_report.specs.declared.report.TableReport.{TableReport}
-use Rattle.otp_sup.specs.Plans.{never_opened}
+use Rattle.otp_sup.specs.Plans.{IsBegunBy}
 use Rattle.otp_close.specs.Closes.{HasBegun, HasTold, HaveBegun}
 use Rattle.otp_bodies.specs.Messages.{items_in}
 use Rattle.otp_inbox.specs.Tokens.{all_sent}
@@ -56,7 +56,7 @@ loop-sup-preserved g c =
     let room_of = c.next_of-room.ensures.next in
     let at = next_at c.args.sups.items n _ _ _ i.sups next in
     let own : c.in-Some.sup.inbox ≡ n = found_at (λ k u. u.inbox ≡ k) c.args.sups.items n c.in-Some.sup c.requires.placed at in
-    let planned = c.take_apart.ensures.plan ∙ ap (λ m. never_opened (g.N.PlanNaming.plan m)) own in
+    let planned = subst (λ m. IsBegunBy (g.N.PlanNaming.plan m) c.take_apart.result.core.base) own c.take_apart.ensures.plan in
     let shorter_too = ap length sender in
     let shorter_rooms = ap length room_of in
     let fewer_too = c.next_of-sender.ensures.len in
@@ -79,7 +79,7 @@ loop-sup-preserved g c =
       left_rooms = omega arith;
       room = omega arith;
       count = omega arith;
-      plans = subst (HaveBegun g.N.PlanNaming.plan) (sym one) (push_at (λ k (t : TableReport). t.core.base ≡ never_opened (g.N.PlanNaming.plan k)) _ _ i.plans planned);
+      plans = subst (HaveBegun g.N.PlanNaming.plan) (sym one) (push_at (λ k (t : TableReport). IsBegunBy (g.N.PlanNaming.plan k) t.core.base) _ _ i.plans planned);
       begins = all-more HasBegun _ _ _ one i.begins apart.begins;
       shown = all-more HasTold _ _ _ one i.shown apart.shown;
       apart = apart-more _ _ _ old one apart.apart i.seen i.apart;

@@ -15,7 +15,7 @@ use Rattle.otp_sup.specs.Told.{ends_told_in}
 use Rattle.otp_office.specs.Events.{items_of}
 use Rattle.otp_office.specs.Offices.{sent_of}
 use Rattle.otp_office.specs.Orders.{starts_in}
-use Rattle.otp_sup.specs.Plans.{never_opened}
+use Rattle.otp_sup.proofs.Planned.{planned}
 use Rattle.otp_close.specs.Leavings.{IsLeft}
 use Rattle.otp_close.proofs.closing.take_apart.Goals as goal
 
@@ -58,7 +58,7 @@ returns-clause-starts g c =
 pub returns-clause-plan : goal.returns-clause-plan
 returns-clause-plan g c =
     let parts = c.into_parts-inbox.ensures in
-    ap (λ (core : View). core.base) parts.core ∙ c.keeps_rules.ensures.plan ∙ ap (λ n. never_opened (g.N.PlanNaming.plan n)) c.requires.takes
+    planned g.N.PlanNaming.plan _ _ _ _ (ap (λ (core : View). core.base) parts.core) (sym c.requires.takes) c.keeps_rules.ensures.plan
 
 pub returns-clause-order : goal.returns-clause-order
 returns-clause-order g c =

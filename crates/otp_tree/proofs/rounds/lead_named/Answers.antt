@@ -1,8 +1,22 @@
-use Rattle.std.proofs.Common.{◌≡◌, ap, ◌∙◌}
+use Rattle.std.proofs.Common.{◌≡◌, ap, subst, sym, ◌∙◌}
+use Rattle.std.specs.Prelude.{IfOk}
 use Rattle.otp_close.proofs.Standings.{complete_kept}
+use Rattle.otp_close.specs.Closes.{IsReportOf}
+use Rattle.otp_open.proofs.SparePlaces.{all_planned, each_planned}
+use Rattle.otp_sup.specs.Plans.{AreAllPlanned}
 use Rattle.otp_hand.specs.Standings.{reach_of, standings}
 use Rattle.otp_tree.proofs.rounds.lead_named.Goals.{else-loop-test, then-loop-test+then-not-make_round}
 use Rattle.otp_tree.proofs.rounds.lead_named.Goals as goal
+
+pub named-requires-clause-plans : goal.named-requires-clause-plans
+named-requires-clause-plans g c = each_planned g.N.PlanNaming.plan c.args.parts.plans.items c.requires.plans
+
+pub returns-clause-report : goal.returns-clause-report
+returns-clause-report g c =
+    let plans = g.N.PlanNaming.plan in
+    let tables = (c.in-Ok.ensures {u = tt}).tables in
+    let all = subst (λ n. AreAllPlanned plans n) (c.requires.as_many ∙ sym tables) (all_planned plans c.args.parts.plans.items c.requires.plans) in
+    subst (λ n. IfOk c.finish-report.result (IsReportOf n)) tables (c.finish-report.ensures.report all)
 
 pub returns-clause-missing : goal.returns-clause-missing
 returns-clause-missing g c =

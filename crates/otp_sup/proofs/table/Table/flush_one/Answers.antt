@@ -50,7 +50,7 @@ invariant_of-self g c =
           ∙ c.self.invariant.calls
           ∙ ap (λ (v : View). starts_waiting (state_of v).waiting) (sym core);
       bodies = subst Has (sym is) (subst Slot (sym c.starting_slot-slot.ensures) (bodies_flushed _ _ _ _ _ _ _ c.self.inside.bodies.kept c.keeps_rules.ensures sent.flushed c.self.invariant.bodies));
-      counts = counts_same old.core c.flush_one-flushed.new.self.core _ (ap (λ (v : View). v.base) core) (ap (λ (v : View). v.history) core) c.self.invariant.counts;
+      counts = counts_same g.N.PlanNaming.plan _ _ old.core c.flush_one-flushed.new.self.core _ (ap (λ (t : TakerState Message). t.inbox) c.credit_start.ensures.taker) (ap (λ (v : View). v.base) core) (ap (λ (v : View). v.history) core) c.self.invariant.counts;
       told = told_same _ _ _ _ (ap stored_of core) refl c.self.invariant.told;
       ends = ends_same old.core c.flush_one-flushed.new.self.core c.self.inside.taker.taken c.credit_start.new.taker.taken c.self.inside.ends.items (ap (λ (v : View). v.cut) core) (ap (λ (v : View). v.history) core) (ap (λ (t : TakerState Message). t.taken) c.credit_start.ensures.taker) c.self.invariant.ends;
       starts =

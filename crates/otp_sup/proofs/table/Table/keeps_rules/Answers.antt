@@ -1,11 +1,11 @@
-use Rattle.std.proofs.Common.{subst, sym}
+use Rattle.std.proofs.Common.{subst}
 use Rattle.otp_core.specs.View.{state_of}
-use Rattle.otp_counts.specs.Counts.{EndsWith}
 use Rattle.otp_rules.specs.Counts.{counts_of}
 use Rattle.otp_sup.specs.Facts.{KeepsRules}
 use Rattle.otp_office.specs.Orders.{starts_in}
 use Rattle.otp_sup.proofs.OneBody.{one_body_each}
-use Rattle.otp_sup.proofs.Published.{last_along}
+use Rattle.otp_sup.proofs.Published.{last_along, last_counted}
+use Rattle.otp_sup.specs.Published.{counts_along}
 use Rattle.otp_sup.proofs.table.Table.keeps_rules.Goals as goal
 
 pub returns : goal.returns
@@ -17,7 +17,9 @@ returns g c =
       calls = c.self.invariant.calls;
       bodies = c.self.invariant.bodies;
       each_body = one_body_each (state_of c.self.inside.office.core) (starts_in c.self.inside.office.outbox) c.self.inside.bodies.kept c.self.invariant.bodies;
-      counts = subst (EndsWith (counts_of (state_of c.self.inside.office.core))) (sym c.self.invariant.counts) (last_along c.self.inside.office.core.base c.self.inside.office.core.history);
+      counts =
+          let core = c.self.inside.office.core in
+          last_counted (g.N.PlanNaming.plan c.self.inside.taker.inbox) (counts_along core.base core.history) c.self.inside.counts.published (counts_of (state_of core)) (last_along core.base core.history) c.self.invariant.counts;
       published = c.self.invariant.counts;
       told = c.self.invariant.told;
       ends = c.self.invariant.ends;

@@ -5,7 +5,7 @@ use Rattle.otp_bodies.specs.Bodies.{calls_waiting}
 use Rattle.otp_sup.specs.Facts.{HasBodies}
 use Rattle.otp_bodies.specs.Messages.{items_in}
 use Rattle.otp_office.specs.Events.{items_of}
-use Rattle.otp_sup.proofs.Published.{counts_first}
+use Rattle.otp_sup.proofs.Published.{all_counted, counts_first}
 use Rattle.otp_sup.proofs.Told.{told_first}
 use Rattle.otp_sup.proofs.Calls.{nothing_waits, settled_calls}
 use Rattle.otp_office.proofs.Telling.{none_told, told_same}
@@ -23,7 +23,7 @@ invariant_of-result g c =
       taken = ap items_in c.requires.taken ∙ sym (ap items_of c.requires.history);
       calls = ap calls_waiting c.settle.ensures ∙ settled_calls [] false c.args.bodies.kept ∙ sym (nothing_waits c.args.office c.keeps_rules.ensures.begins c.requires.history);
       bodies = subst Has (sym c.settle.ensures) (first_bodies c.args.office c.args.bodies.kept c.keeps_rules.ensures c.requires.history c.requires.bodies c.has_one_each.ensures);
-      counts = counts_first c.args.office.core _ c.requires.history c.requires.counts;
+      counts = all_counted (g.N.PlanNaming.plan c.args.taker.inbox) _ _ (counts_first c.args.office.core _ c.requires.history c.requires.counts);
       told = told_same _ _ [] _ refl c.new.ensures.items (none_told (stored_of c.args.office.core));
       ends = c.new.ensures.items ∙ sym (told_first c.args.office.core c.args.taker.taken c.requires.history);
       starts = ap (λ (s : Shares). s.starts) c.requires.unused.1 ∙ sym (none_sent c.args.office c.requires.history);

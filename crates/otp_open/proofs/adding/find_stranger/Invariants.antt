@@ -1,0 +1,7 @@
+use Rattle.std.proofs.Common.{ℕ, ◌<◌}
+use Rattle.std.specs.Prelude.{All, IfSome, slice_get}
+use Rattle.otp_draft.specs.Plans.{IsNear}
+use Rattle.otp_open.proofs.adding.find_stranger.Given as goal
+
+abbrev pub invariant-loop-place : goal.invariant-loop-place
+invariant-loop-place g l = (k : ℕ) → k < l.place → IfSome (slice_get l.plans k) (λ plan. All IsNear plan.bodies.items)

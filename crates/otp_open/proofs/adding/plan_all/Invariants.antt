@@ -1,0 +1,16 @@
+use Rattle.std.proofs.Common.{◌≡◌, ◌+◌, ◌≤◌, length}
+use Rattle.otp_open.specs.Adds.{AreNear, Fit}
+use Rattle.otp_open.specs.Plans.{HaveBodies}
+use Rattle.otp_open.proofs.adding.plan_all.Given as goal
+
+abbrev pub invariant-loop-plan : goal.invariant-loop-plan
+invariant-loop-plan g l =
+    record {
+      left : l.plan-iterator.rest.len ≡ length l.plan-iterator.rest.items;
+      left_spaces : l.spaces.rest.len ≡ length l.spaces.rest.items;
+      count : l.number + length l.plan-iterator.rest.items ≡ l.fn.first + length l.fn.plans.items;
+      from_first : l.fn.first ≤ l.number;
+      bodies : HaveBodies l.plan-iterator.rest.items;
+      near : AreNear l.plan-iterator.rest.items;
+      fit : Fit l.plan-iterator.rest.items l.spaces.rest.items;
+    }

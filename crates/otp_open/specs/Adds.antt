@@ -1,0 +1,30 @@
+-- Supervisors that are added to a tree. (own)
+use Rattle.std.specs.Prelude.{◌≡◌, ℕ, ◌≤◌, ⊤, List, [], ◌∷◌, All, Bool, true, length, nat_lt}
+use Rattle.otp_bodies.specs.Bodies.{BodiesView}
+use Rattle.otp_draft.specs.Plans.{IsNear}
+use Rattle.otp_job.specs.declared.body.Body.{Body}
+use Rattle.otp_job.specs.declared.body.Body.TheVariants as body
+use Rattle.otp_run.specs.Lists.{AllAt}
+use Rattle.otp_open.specs.declared.plan.TablePlan.{TablePlan}
+
+module _ {J S : Type 0} where
+  -- it is no supervisor, or one with a number below this one
+  abbrev pub is_within : ℕ → Body J S → Bool
+  is_within count (body.Sup number) = nat_lt number count
+  is_within count (body.Worker job) = true
+  is_within count (body.Bridge bridge) = true
+
+  -- each child of these plans that is a supervisor has a number below 64
+  abbrev pub AreNear : List (TablePlan J S) → Type 0
+  AreNear plans = AllAt (λ _ (plan : TablePlan J S). All IsNear plan.bodies.items) plans
+
+  -- the memory for the bodies of this plan
+  pub record IsSpaceFor (plan : TablePlan J S) (space : BodiesView) : Type 0 where
+    pub none : space.kept ≡ []
+    pub room : length plan.bodies.items ≤ space.room
+
+  -- the same for each plan, in their order
+  abbrev pub Fit : List (TablePlan J S) → List BodiesView → Type 0
+  Fit [] [] = ⊤
+  Fit (plan ∷ plans) (space ∷ spaces) = IsSpaceFor plan space × Fit plans spaces
+  Fit _ _ = ⊥

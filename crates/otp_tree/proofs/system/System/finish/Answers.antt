@@ -1,0 +1,14 @@
+use Rattle.std.proofs.Common.{subst, sym}
+use Rattle.std.specs.Prelude.{IfOk}
+use Rattle.otp_close.specs.Closes.{IsFreeFrom, IsReportOf}
+use Rattle.otp_hand.specs.Hands.{SystemView}
+use Rattle.otp_sup.specs.Plans.{AreAllPlanned}
+use Rattle.otp_tree.proofs.system.System.finish.Goals as goal
+
+pub finish-requires : goal.finish-requires
+finish-requires g c = subst (λ (v : SystemView). IsFreeFrom g.N.PlanNaming.plan v.tables c.known-known.result) (sym c.self.view_is) c.known-known.ensures
+
+pub returns-clause-report : goal.returns-clause-report
+returns-clause-report g c =
+    let plans = g.N.PlanNaming.plan in
+    subst (λ (v : SystemView). AreAllPlanned plans v.tables → IfOk c.finish.result (IsReportOf v.tables)) c.self.view_is c.finish.ensures.report

@@ -1,0 +1,17 @@
+-- Supervisors that are added to a tree. (own)
+use Rattle.std.specs.Prelude.{◌≡◌, ◌⊎◌, ⊤, List}
+use Rattle.otp_open.specs.Plans.{IsLackingAt}
+use Rattle.otp_open.specs.declared.plan.TablePlan.{TablePlan}
+use Rattle.otp_tree.specs.declared.adding.AddFault.{AddFault}
+use Rattle.otp_tree.specs.declared.adding.AddFault.TheVariants as fault
+use Rattle.otp_tree.specs.declared.adding.Unadded.{Unadded}
+
+module _ {J S : Type 0} where
+  -- the plan that is said to lack a body does
+  abbrev pub IsAddFault : List (TablePlan J S) → AddFault → Type 0
+  IsAddFault plans (fault.NoBody table) = IsLackingAt plans table
+  IsAddFault plans _ = ⊤
+
+  -- the plans come back, unless a place had a supervisor already
+  abbrev pub IsGivenBack : List (TablePlan J S) → Unadded J S → Type 0
+  IsGivenBack plans back = (back.fault ≡ fault.Occupied) ⊎ (back.plans.items ≡ plans)
