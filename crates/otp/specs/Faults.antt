@@ -20,7 +20,7 @@ module _ {J S : Type 0} where
   run_fault (run.Open (open_fault.NoBody table)) = fault.NoBody
   run_fault (run.Close (close.OutOfMemory k)) = fault.OutOfMemory
   run_fault (run.Close (close.Missing k)) = fault.Missing
-  run_fault (run.Close (close.Misplaced k d)) = fault.Missing
+  run_fault (run.Close (close.Misplaced k d)) = fault.Misplaced
   run_fault (run.Close (close.Mismatch m report)) = fault.Mismatch
 
   abbrev pub unrun_fault : Unrun J S → Fault

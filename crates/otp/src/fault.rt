@@ -25,6 +25,9 @@ pub enum Fault {
     /// E20: a part of the tree is missing at its close.
     #[error("a part of the tree is missing at its close")]
     Missing,
+    /// E20: a supervisor's lock holds another one's, which doesn't happen ([`CloseFault::Misplaced`]).
+    #[error("a supervisor's lock holds another one's")]
+    Misplaced,
     /// E17: a supervisor was told an end of another that isn't the one that the other's own history gives.
     #[error("a supervisor was told another's end otherwise than that one's history gives it")]
     Mismatch,
@@ -91,8 +94,8 @@ impl<J: Drop, S: Drop> From<RunFault<J, S>> for Fault {
             RunFault::Open(SystemFault::OutOfMemory) => Fault::OutOfMemory,
             RunFault::Open(SystemFault::NoBody { .. }) => Fault::NoBody,
             RunFault::Close(CloseFault::OutOfMemory(())) => Fault::OutOfMemory,
-            RunFault::Close(CloseFault::Missing(()) | CloseFault::Misplaced((), _)) =>
-                Fault::Missing,
+            RunFault::Close(CloseFault::Missing(())) => Fault::Missing,
+            RunFault::Close(CloseFault::Misplaced((), _)) => Fault::Misplaced,
             RunFault::Close(CloseFault::Mismatch(_, report)) => {
                 drop(report);
                 Fault::Mismatch

@@ -22,7 +22,7 @@ pub struct Mismatch {
     pub event: usize,
 }
 
-/// The first event that tells an end that isn't so.
+/// An event that tells an end that isn't so.
 pub(crate) fn find_mismatch(tables: &[TableReport]) -> Option<Mismatch>
     ensures none { IfNone result (AreSo tables.now) }
     ensures found { IfSome result (IsMismatch tables.now) }
@@ -35,7 +35,7 @@ pub(crate) fn find_mismatch(tables: &[TableReport]) -> Option<Mismatch>
     None
 }
 
-/// The first event of a supervisor that tells an end that isn't so: for another reason, or else with another cause.
+/// An event of a supervisor that tells an end that isn't so: for another reason, or else with another cause.
 fn find_in(table: &TableReport, tables: &[TableReport]) -> Option<usize>
     ensures none { IfNone result (IsToldSo tables.now table.now) }
     ensures found { IfSome result (λ event. IsMismatchOf tables.now table.now event) }
@@ -46,7 +46,7 @@ fn find_in(table: &TableReport, tables: &[TableReport]) -> Option<usize>
     }
 }
 
-/// The first event of a history that tells an end that isn't so.
+/// An event of a history that tells an end that isn't so.
 fn find_untrue(history: &History, tables: &[TableReport]) -> Option<usize>
     ensures none { IfNone result (AllAt (λ _ e. IsSo tables.now e) history.now.events) }
     ensures found { IfSome result (λ place. MatchOption (slice_get history.now.events place) ⊥ (λ event. ¬ (IsSo tables.now event))) }
@@ -171,7 +171,7 @@ fn is_open_under(phase: Phase, number: u64) -> bool
     }
 }
 
-/// The event of the first end that was told and that isn't borne out.
+/// The event of an end that was told and that isn't borne out.
 fn find_false_end(ends: &[ToldEnd], tables: &[TableReport]) -> Option<usize>
     ensures none { IfNone result (AllAt (λ _ x. IsBorneOut tables.now x) ends.now) }
     ensures found { IfSome result (λ event. IsThere (λ x. (x.event ≡ event) × ¬ (IsBorneOut tables.now x)) ends.now) }

@@ -79,8 +79,9 @@ fn init_failed(id: Name) -> Reason
 }
 
 impl<J: Drop, S: Drop> Report<J, S> {
-    /// The first event that tells a supervisor an end of another one that isn't the one that the other's own history
-    /// gives: another reason, or another cause. Whoever closes a tree looks for it.
+    /// An event that tells a supervisor an end of another one that isn't the one that the other's own history gives:
+    /// another reason, or another cause. Whoever closes a tree looks for one. Which it is where there are several,
+    /// no clause says.
     ///
     /// Histories are looked at as far as they are stored. An end that a checkpoint of the other supervisor dropped can't be
     /// compared, and is no mismatch.

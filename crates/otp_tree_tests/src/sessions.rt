@@ -160,9 +160,9 @@ fn close_whole<R: Wait + Abort>(rt: &R, alloc: Global) -> bool {
     }
 }
 
-// Of `rt try --test --fail-alloc N` the least N refuse what the test makes for itself, which it then tells. Of the next each
-// refuses one growth of the opening, of a turn or of the close: the tree is opened again, or nothing is lost, and all comes to
-// the same end.
+// Under `.ci/refused-growths --trees` the first allocations that are refused are those that the test makes for itself, which it
+// then tells. Each of the next is a growth of the opening, of a turn or of the close: the tree is opened again, or nothing is
+// lost, and all comes to the same end.
 #[test]
 fn a_tree_is_closed_with_all_its_hands(rt: HostRuntime) {
     if !close_whole(&rt, rt.alloc()) {
