@@ -174,9 +174,12 @@ impl<J: Drop, S: Drop> Parts<J, S> {
         requires deques { AllAt (λ k id. id ≡ N.deque k) self.queue }
         requires slots { self.words.slots ≡ slots_of (length self.inboxes.items) }
         requires few { length self.inboxes.items ≤ MAX_TABLES }
+        ensures first { IfOk result (λ o. is_some o.client.waiter ≡ true) }
+        ensures tables { IfOk result (λ o. o.system.tables ≡ length self.inboxes.items) }
         ensures bodies { OnOk result (HaveBodies self.plans.items) }
         ensures fault { IfErr result (IsOpenFault self.plans.items) }
-        ensures tables { IfOk result (λ o. o.system.tables ≡ length self.inboxes.items) }
+        ensures passes { IfOk result (λ o. CanRead (length self.inboxes.items) o.hands.items) }
+        ensures complete { IfOk result (λ o. 0 < length self.queue → IsAll (schedulers_of o.hands.items) × IsReached o.system.tables o.client (all_senders o.client o.hands.items)) }
     {
         let Ok(growth) = Growth::open(alloc, opened) else {
             drop(self);

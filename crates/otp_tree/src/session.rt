@@ -157,6 +157,7 @@ fn run_growing<
     requires deques { AllAt (λ k id. id ≡ N.deque k) parts.queue }
     requires slots { parts.words.slots ≡ slots_of (length parts.inboxes.items) }
     requires few { length parts.inboxes.items ≤ MAX_TABLES }
+    requires some { 0 < length parts.queue }
     ensures bodies { OnOk result (HaveBodies parts.plans.items) }
     ensures fault { IfErr result (IsOpenFault parts.plans.items) }
 {
