@@ -1,15 +1,15 @@
 -- A tree that was drawn up, by the plans that it was opened with.
 use Rattle.std.proofs.Common.{Some, None, Option, ◌≡◌, ℕ, zero, suc, ◌≤◌, List, [], ◌∷◌, Bool, true, false, All, Result, arith, length, map, refl, sym, ap, ◌∙◌, subst}
-use Rattle.std.specs.Prelude.{slice_get, IfSome, MatchOption, if◌then◌else◌}
+use Rattle.std.specs.Prelude.{slice_get, IfSome, if◌then◌else◌}
 use Rattle.otp_close.specs.Closes.{HaveBegun, report_in}
 use Rattle.otp_close.specs.declared.closing.CloseFault.{CloseFault}
 use Rattle.otp_draft.specs.Plans.{HasAllBodies, Planned, numbered, seen}
 use Rattle.otp_draft.specs.Trees.{Tree}
 use Rattle.otp_draft.specs.Trees as draft
 use Rattle.otp_draft.specs.declared.plan.TablePlan as drawn
-use Rattle.otp_open.specs.Plans.{HasBodies, HaveBodies, LacksBody, Suffice}
+use Rattle.otp_open.proofs.EachOpened.{none_lacks}
+use Rattle.otp_open.specs.Plans.{HaveBodies, Suffice}
 use Rattle.otp_open.specs.Plans as opened
-use Rattle.otp_open.specs.declared.opening.SystemFault.TheVariants as open_fault
 use Rattle.otp_open.specs.declared.plan.TablePlan.{TablePlan}
 use Rattle.otp_report.specs.declared.report.Report.{Report}
 use Rattle.otp_report.specs.declared.report.TableReport.{TableReport}
@@ -23,7 +23,7 @@ use Rattle.otp_sup.specs.Plans.{IsBegunBy}
 use Rattle.otp_tree.specs.Closes.{IsRunOpenFault}
 use Rattle.otp_tree.specs.declared.whole.RunFault.{RunFault}
 use Rattle.otp_tree.specs.declared.whole.RunFault.TheVariants as run
-use Rattle.otp.specs.Runs.{IsRunNoneBare, seen_in_tree, supervisor_in, supervisors_of}
+use Rattle.otp.specs.Runs.{HasPlansBack, IsRunNoneBare, seen_in_tree, supervisor_in, supervisors_of}
 
 -- so many bodies are one for each child
 is_enough : (simple : Bool) (specs : List ChildSpec) (bodies : ℕ) → bodies ≡ (if simple then 0 else length specs) → length (opening_specs simple specs) ≤ bodies
@@ -65,7 +65,10 @@ module _ {J S : Type 0} where
 
   -- where each plan has its bodies, none lacks one
   pub none_bare : (plans : List (TablePlan J S)) (why : RunFault J S) → HaveBodies plans → IsRunOpenFault plans why → IsRunNoneBare why
-  none_bare plans (run.Open open_fault.OutOfMemory) all fault = tt
-  none_bare plans (run.Open (open_fault.NoBody table)) all fault =
-      elim (slice_get plans table) as (λ plan. IfSome plan HasBodies → MatchOption plan ⊥ LacksBody → ⊥) [ Some plan ↦ (λ has lacks. omega (arith, has, lacks)) | None ↦ (λ has lacks. lacks) ] (all table) fault
+  none_bare plans (run.Open back) all fault = none_lacks plans back.fault all fault.0
   none_bare plans (run.Close why) all fault = tt
+
+  -- the plans that come back are those of the tree
+  pub plans_back : (plans : List (TablePlan J S)) (root : Tree J S) (why : RunFault J S) → map seen_in_tree plans ≡ numbered 0 (draft.plans_of root) → IsRunOpenFault plans why → HasPlansBack root why
+  plans_back plans root (run.Open back) same fault = ap (map seen_in_tree) fault.1 ∙ same
+  plans_back plans root (run.Close why) same fault = tt

@@ -2,7 +2,8 @@
 use Rattle.otp_draft.specs.declared.fault.DraftFault.{DraftFault}
 use Rattle.otp_draft.specs.declared.fault.DraftFault.TheVariants as draft
 use Rattle.otp_close.specs.declared.closing.CloseFault.TheVariants as close
-use Rattle.otp_open.specs.declared.opening.SystemFault.TheVariants as open_fault
+use Rattle.otp_open.specs.declared.opening.SystemFault.{SystemFault}
+use Rattle.otp_open.specs.declared.opening.SystemFault.TheVariants as unopened
 use Rattle.otp_tree.specs.declared.whole.RunFault.{RunFault}
 use Rattle.otp_tree.specs.declared.whole.RunFault.TheVariants as run
 use Rattle.otp.specs.declared.fault.Fault.{Fault}
@@ -14,10 +15,13 @@ abbrev pub fault_of : DraftFault → Fault
 fault_of draft.OutOfMemory = fault.OutOfMemory
 fault_of why = fault.Draft why
 
+abbrev pub open_fault : SystemFault → Fault
+open_fault unopened.OutOfMemory = fault.OutOfMemory
+open_fault (unopened.NoBody table) = fault.NoBody
+
 module _ {J S : Type 0} where
   abbrev pub run_fault : RunFault J S → Fault
-  run_fault (run.Open open_fault.OutOfMemory) = fault.OutOfMemory
-  run_fault (run.Open (open_fault.NoBody table)) = fault.NoBody
+  run_fault (run.Open back) = open_fault back.fault
   run_fault (run.Close (close.OutOfMemory k)) = fault.OutOfMemory
   run_fault (run.Close (close.Missing k)) = fault.Missing
   run_fault (run.Close (close.Misplaced k d)) = fault.Misplaced

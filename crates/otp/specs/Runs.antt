@@ -1,5 +1,5 @@
 -- What comes of a tree that was drawn up, and what comes back of one that was not run. (own)
-use Rattle.std.specs.Prelude.{◌≡◌, ◌<◌, ◌⊎◌, ⊤, ℕ, Option, Some, None, slice_get}
+use Rattle.std.specs.Prelude.{◌≡◌, ◌<◌, ◌⊎◌, ⊤, ℕ, Option, Some, None, map, slice_get}
 use Rattle.otp_draft.specs.Faults.{IsOfDraft, finish_fault}
 use Rattle.otp_draft.specs.Plans.{Planned, numbered}
 use Rattle.otp_draft.specs.Trees.{Tree, plans_of}
@@ -9,7 +9,7 @@ use Rattle.otp_spec.specs.Supervisor.{Supervisor}
 use Rattle.otp_tree.specs.Closes.{IsRunMismatchOnly, IsRunNoneMissing}
 use Rattle.otp_tree.specs.declared.whole.RunFault.{RunFault}
 use Rattle.otp_tree.specs.declared.whole.RunFault.TheVariants as run
-use Rattle.otp_open.specs.declared.opening.SystemFault.TheVariants as open_fault
+use Rattle.otp_open.specs.Plans.{IsNotBare}
 use Rattle.otp_open.specs.declared.plan.TablePlan.{TablePlan}
 use Rattle.otp.specs.declared.fault.Unrun.{Unrun}
 use Rattle.otp.specs.declared.fault.Unrun.TheVariants as unrun
@@ -29,18 +29,22 @@ module _ {J S : Type 0} where
 
   -- no child is said to have no body
   abbrev pub IsRunNoneBare : RunFault J S → Type 0
-  IsRunNoneBare (run.Open open_fault.OutOfMemory) = ⊤
-  IsRunNoneBare (run.Open (open_fault.NoBody table)) = ⊥
+  IsRunNoneBare (run.Open back) = IsNotBare back.fault
   IsRunNoneBare (run.Close why) = ⊤
+
+  -- where it was not opened all comes back that it is made of: the flags and specifications of each supervisor, and what each child runs
+  abbrev pub HasPlansBack : Tree J S → RunFault J S → Type 0
+  HasPlansBack root (run.Open back) = map seen_in_tree back.plans.items ≡ numbered 0 (plans_of root)
+  HasPlansBack root (run.Close why) = ⊤
 
   -- the tree comes back, with the first fault of its root, or because memory was refused
   pub record IsUnfinished (root : Tree J S) (back : Refused (Tree J S)) : Type 0 where
     pub given : back.given ≡ root
     pub why : IsOfDraft back.fault → finish_fault root ≡ Some back.fault
 
-  -- the tree comes back, but where its life had begun. Then memory was refused, or a mismatch was found: each child of a draft
-  -- has its body, and nobody else has a part of the tree
+  -- the tree comes back, but where its life had begun. Where it was only planned its plans come back. Memory was refused then, or a
+  -- mismatch was found: each child of a draft has its body, and nobody else has a part of the tree
   abbrev pub IsBack : ℕ → Tree J S → Unrun J S → Type 0
   IsBack hands root (unrun.Hands given) = (given ≡ root) × ((hands < 1) ⊎ (all_parts < hands))
   IsBack hands root (unrun.Unfinished back) = IsUnfinished root back
-  IsBack hands root (unrun.Run why) = (finish_fault root ≡ None) × (IsRunMismatchOnly why × (IsRunNoneMissing why × IsRunNoneBare why))
+  IsBack hands root (unrun.Run why) = (finish_fault root ≡ None) × (IsRunMismatchOnly why × (IsRunNoneMissing why × (IsRunNoneBare why × HasPlansBack root why)))

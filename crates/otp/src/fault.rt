@@ -3,7 +3,7 @@ ghost use Rattle.std.specs.Prelude.{◌≡◌};
 ghost use Rattle.otp.specs.Faults.{fault_of, run_fault};
 
 use otp_draft::{DraftFault, Refused, TreeDraft};
-use otp_tree::{CloseFault, RunFault, SystemFault};
+use otp_tree::{CloseFault, RunFault, SystemFault, Unopened};
 use std::alloc::AllocError;
 use thiserror::Error;
 
@@ -40,7 +40,7 @@ pub enum Unrun<J: Drop, S: Drop> {
     Unfinished(Refused<TreeDraft<J, S>>),
     /// A tree is served by 1 to 8 hands. The tree comes back.
     Hands(TreeDraft<J, S>),
-    /// It was not opened, or not closed.
+    /// It was not opened, and its plans come back with the bodies of all children; or it was not closed.
     Run(RunFault<J, S>),
 }
 
@@ -83,16 +83,34 @@ impl<T: Drop> From<Refused<T>> for Fault {
     }
 }
 
+impl From<SystemFault> for Fault {
+    ghost use Rattle.std.specs.Prelude.{◌≡◌};
+    ghost use Rattle.otp.specs.Faults.{open_fault};
+
+    ghost from_gives = { λ why fault. fault ≡ open_fault why };
+
+    fn from(why: SystemFault) -> Fault {
+        match why {
+            SystemFault::OutOfMemory => Fault::OutOfMemory,
+            SystemFault::NoBody { .. } => Fault::NoBody,
+        }
+    }
+}
+
 impl<J: Drop, S: Drop> From<RunFault<J, S>> for Fault {
     ghost use Rattle.std.specs.Prelude.{◌≡◌};
     ghost use Rattle.otp.specs.Faults.{run_fault};
 
     ghost from_gives = { λ why fault. fault ≡ run_fault why };
 
+    /// The plans that came back are dropped.
     fn from(why: RunFault<J, S>) -> Fault {
         match why {
-            RunFault::Open(SystemFault::OutOfMemory) => Fault::OutOfMemory,
-            RunFault::Open(SystemFault::NoBody { .. }) => Fault::NoBody,
+            RunFault::Open(back) => {
+                let Unopened { fault, plans } = back;
+                drop(plans);
+                Fault::from(fault)
+            }
             RunFault::Close(CloseFault::OutOfMemory(())) => Fault::OutOfMemory,
             RunFault::Close(CloseFault::Missing(())) => Fault::Missing,
             RunFault::Close(CloseFault::Misplaced((), _)) => Fault::Misplaced,

@@ -52,7 +52,8 @@ pub use otp_spec::{
 pub use otp_tree::{
     AddFault, CallEnd, CallId, CallRefusal, CallRequest, Client, CountedRun, Gate, Hand, Leader,
     Led, MAX_HANDS, Millis, NoTable, Report, Round, RunFault, Session, System, SystemFault,
-    TablePlan, TableReport, TreeNaming, Unadded, Uncalled, with_growing_system, with_system,
+    TablePlan, TableReport, TreeNaming, Unadded, Uncalled, Unopened, with_growing_system,
+    with_system,
 };
 pub use running::{lead, plans, run, run_counted, run_turns, run_with_callers, with_tree};
 pub use still::Still;

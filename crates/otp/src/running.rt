@@ -114,7 +114,8 @@ fn plans_for<J: Drop, S: Drop>(
 ///
 /// # Errors
 ///
-/// [`Unrun::Hands`] and [`Unrun::Unfinished`] with the tree; [`Unrun::Run`] where it was not opened or not closed.
+/// [`Unrun::Hands`] and [`Unrun::Unfinished`] with the tree; [`Unrun::Run`] where it was not opened, with its plans, or not
+/// closed.
 pub fn run<R, J, S, W>(
     rt: &R,
     alloc: Global,
@@ -201,7 +202,8 @@ where
 ///
 /// # Errors
 ///
-/// [`Unrun::Hands`] and [`Unrun::Unfinished`] with the tree; [`Unrun::Run`] where it was not opened or not closed.
+/// [`Unrun::Hands`] and [`Unrun::Unfinished`] with the tree; [`Unrun::Run`] where it was not opened, with its plans, or not
+/// closed.
 pub fn run_counted<R, J, S, G>(
     rt: &R,
     alloc: Global,
@@ -259,7 +261,8 @@ where
 ///
 /// # Errors
 ///
-/// [`Unrun::Hands`] and [`Unrun::Unfinished`] with the tree; [`Unrun::Run`] where it was not opened. The leader is dropped then.
+/// [`Unrun::Hands`] and [`Unrun::Unfinished`] with the tree; [`Unrun::Run`] where it was not opened, with its plans. The
+/// leader is dropped then.
 pub fn lead<R, J, S, G, L>(
     rt: &R,
     alloc: Global,
@@ -301,7 +304,8 @@ where
 ///
 /// # Errors
 ///
-/// [`Unrun::Hands`] and [`Unrun::Unfinished`] with the tree; [`Unrun::Run`] where it was not opened. The session is dropped then.
+/// [`Unrun::Hands`] and [`Unrun::Unfinished`] with the tree; [`Unrun::Run`] where it was not opened, with its plans. The
+/// session is dropped then.
 pub fn with_tree<R, J, S, T>(
     rt: &R,
     alloc: Global,

@@ -1,10 +1,10 @@
 -- A tree of a file, by the plans that it is opened with.
 use Rattle.std.proofs.Common.{Some, None, ◌≡◌, ℕ, zero, suc, ◌+◌, List, [], ◌∷◌, Option, arith, map, refl, ap, subst, ◌∙◌}
-use Rattle.std.specs.Prelude.{slice_get, IfSome, MatchOption}
+use Rattle.std.specs.Prelude.{slice_get}
 use Rattle.otp_close.specs.Closes.{HaveBegun}
 use Rattle.otp_file.specs.Trees.{Table}
-use Rattle.otp_open.specs.Plans.{HasBodies, HaveBodies, LacksBody, plans_of}
-use Rattle.otp_open.specs.declared.opening.SystemFault.TheVariants as unopened
+use Rattle.otp_open.proofs.EachOpened.{none_lacks}
+use Rattle.otp_open.specs.Plans.{HaveBodies, plans_of}
 use Rattle.otp_open.specs.declared.plan.TablePlan.{TablePlan}
 use Rattle.otp_report.specs.declared.report.TableReport.{TableReport}
 use Rattle.otp_run.proofs.Places.{each_at}
@@ -44,7 +44,5 @@ have_begun plans other reports same begun =
 
 -- where each plan has its bodies, none lacks one
 pub none_bare : {J S : Type 0} (plans : List (TablePlan J S)) (why : RunFault J S) → HaveBodies plans → IsRunOpenFault plans why → IsNoneBare why
-none_bare plans (run.Open unopened.OutOfMemory) all fault = tt
-none_bare plans (run.Open (unopened.NoBody table)) all fault =
-    elim (slice_get plans table) as (λ plan. IfSome plan HasBodies → MatchOption plan ⊥ LacksBody → ⊥) [ Some plan ↦ (λ has lacks. omega (arith, has, lacks)) | None ↦ (λ has lacks. lacks) ] (all table) fault
+none_bare plans (run.Open back) all fault = none_lacks plans back.fault all fault.0
 none_bare plans (run.Close why) all fault = tt

@@ -6,6 +6,8 @@ use Rattle.otp_report.specs.Reports.{last_reason}
 use Rattle.otp_close.specs.Closes.{HaveBegun, IsReportOf}
 use Rattle.otp_close.specs.declared.closing.CloseFault.TheVariants as close
 use Rattle.otp_file.specs.Trees.{Table}
+use Rattle.otp_open.specs.Plans.{IsNotBare}
+use Rattle.otp_open.specs.declared.opening.SystemFault.{SystemFault}
 use Rattle.otp_open.specs.declared.opening.SystemFault.TheVariants as unopened
 use Rattle.otp_report.specs.declared.report.TableReport.{TableReport}
 use Rattle.otp_spec.specs.declared.limits.TheConstants.{MAX_TABLES}
@@ -41,18 +43,21 @@ run_fault plan.TooManyTables = TooManyTables
 run_fault (plan.UnknownStart name) = UnknownStart name
 run_fault plan.WrongBody = WrongBody
 
+-- why a tree was not opened of which no child lacks its body
+abbrev pub IsFaultOfOpening : SystemFault → FileRunFault → Type 0
+IsFaultOfOpening unopened.OutOfMemory fault = fault ≡ OutOfMemory
+IsFaultOfOpening (unopened.NoBody table) fault = ⊥
+
 module _ {J S : Type 0} where
   -- no child is said to have no body
   abbrev pub IsNoneBare : RunFault J S → Type 0
-  IsNoneBare (run.Open unopened.OutOfMemory) = ⊤
-  IsNoneBare (run.Open (unopened.NoBody table)) = ⊥
+  IsNoneBare (run.Open back) = IsNotBare back.fault
   IsNoneBare (run.Close why) = ⊤
 
   -- and why, where it was planned and has no report: it was not opened or not closed, or its report tells of a mismatch. No child
   -- lacks its body, and no part of the tree is missing
   abbrev pub IsFaultOf : RunFault J S → FileRunFault → Type 0
-  IsFaultOf (run.Open unopened.OutOfMemory) fault = fault ≡ OutOfMemory
-  IsFaultOf (run.Open (unopened.NoBody table)) fault = ⊥
+  IsFaultOf (run.Open back) fault = IsFaultOfOpening back.fault fault
   IsFaultOf (run.Close (close.OutOfMemory back)) fault = fault ≡ OutOfMemory
   IsFaultOf (run.Close (close.Missing back)) fault = ⊥
   IsFaultOf (run.Close (close.Misplaced back found)) fault = fault ≡ Misplaced

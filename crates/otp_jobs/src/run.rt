@@ -3,7 +3,8 @@ ghost use Rattle.std.specs.Prelude.{◌≡◌, ◌<◌, ◌≤◌, ◌++◌, fal
 ghost use Rattle.std.specs.Option.{SomeIff, option_map};
 ghost use Rattle.otp_file.specs.Trees.{tables_of};
 ghost use Rattle.otp_jobs.specs.Plans.{plan_fault};
-ghost use Rattle.otp_jobs.specs.Runs.{AreSettings, IsFaultOf, IsNoneBare, IsNotPlanned, IsOfRun, IsRunOf, IsTooManyOnly, line_of, run_fault, run_text};
+ghost use Rattle.otp_jobs.specs.Runs.{AreSettings, IsFaultOf, IsFaultOfOpening, IsNoneBare, IsNotPlanned, IsOfRun, IsRunOf, IsTooManyOnly, line_of, run_fault, run_text};
+ghost use Rattle.otp_open.specs.Plans.{IsNotBare};
 ghost use Rattle.otp_tree.specs.Closes.{IsRunNoneMissing};
 
 use crate::plan::{PlanFault, plan_tree};
@@ -13,7 +14,7 @@ use crate::worker::WorkedJob;
 use otp_file::TreeSpec;
 use otp_reason::Name;
 use otp_tree::{
-    CloseFault, CountedRun, Gate, RunFault, SystemFault, TableReport, run_tree_counted,
+    CloseFault, CountedRun, Gate, RunFault, SystemFault, TableReport, Unopened, run_tree_counted,
 };
 use std::alloc::{AllocError, Global};
 use std::marker::Model;
@@ -64,6 +65,18 @@ impl From<PlanFault> for FileRunFault {
     }
 }
 
+/// Why a tree of which each plan has its bodies was not opened: memory was refused.
+fn fault_of_opening(why: SystemFault) -> FileRunFault
+    requires { IsNotBare why }
+    ensures kind { IsNotPlanned result }
+    ensures fault { IsFaultOfOpening why result }
+{
+    match why {
+        SystemFault::OutOfMemory => FileRunFault::OutOfMemory,
+        SystemFault::NoBody { .. } => unreachable!(),
+    }
+}
+
 /// Why a tree that could be planned has no report. Nobody else has a part of it, and its plan has a body for each child, so neither is
 /// said to be missing.
 pub fn fault_of<J: Drop, S: Drop>(why: RunFault<J, S>) -> FileRunFault
@@ -73,8 +86,11 @@ pub fn fault_of<J: Drop, S: Drop>(why: RunFault<J, S>) -> FileRunFault
     ensures fault { IsFaultOf why result }
 {
     match why {
-        RunFault::Open(SystemFault::OutOfMemory) => FileRunFault::OutOfMemory,
-        RunFault::Open(SystemFault::NoBody { .. }) => unreachable!(),
+        RunFault::Open(back) => {
+            let Unopened { fault, plans } = back;
+            drop(plans);
+            fault_of_opening(fault)
+        }
         RunFault::Close(CloseFault::OutOfMemory(())) => FileRunFault::OutOfMemory,
         RunFault::Close(CloseFault::Missing(())) => unreachable!(),
         RunFault::Close(CloseFault::Misplaced((), _)) => FileRunFault::Misplaced,

@@ -20,7 +20,7 @@ use otp_bridge::Subsystem;
 use otp_hand::TreeNaming;
 use otp_job::Job;
 use otp_sup::SupNaming;
-use otp_tree::{Hand, Report, RunFault, System, SystemFault, TablePlan};
+use otp_tree::{Hand, Report, RunFault, System, TablePlan, Unopened};
 use otp_wake::{Post, Stop};
 use std::alloc::{AllocError, Global};
 use std::sync::{Arc, Mutex, Wait};
@@ -40,7 +40,7 @@ const PAUSE: u64 = 1;
 ///
 /// # Errors
 ///
-/// [`RunFault::Open`] where memory is refused, or a plan lacks a body: nothing ran. [`RunFault::Close`] where memory for the report
+/// [`RunFault::Open`] where memory is refused, or a plan lacks a body: nothing ran, and the plans come back. [`RunFault::Close`] where memory for the report
 /// is refused, and in two cases that don't happen ([`CloseFault`](otp_tree::CloseFault)).
 pub fn run<R, J, S, W>(
     rt: &R,
@@ -65,7 +65,8 @@ where
     ensures mismatch { IfErr result IsRunMismatchOnly }
     // All parts of the tree are there when it is closed, since nobody else has one.
     ensures missing { IfErr result IsRunNoneMissing }
-    // Each plan has a body for each child that an opening makes, or that is why it isn't run, or memory was refused.
+    // Each plan has a body for each child that an opening makes; or that is why it isn't run, or memory was refused, and the plans
+    // come back as they were.
     ensures bodies { OnOk result (HaveBodies plans.items) }
     ensures opened { IfErr result (IsRunOpenFault plans.items) }
 {
@@ -97,7 +98,8 @@ where
     ensures mismatch { IfErr result IsRunMismatchOnly }
     // All parts of the tree are there when it is closed, since nobody else has one.
     ensures missing { IfErr result IsRunNoneMissing }
-    // Each plan has a body for each child that an opening makes, or that is why it isn't run, or memory was refused.
+    // Each plan has a body for each child that an opening makes; or that is why it isn't run, or memory was refused, and the plans
+    // come back as they were.
     ensures bodies { OnOk result (HaveBodies plans.items) }
     ensures opened { IfErr result (IsRunOpenFault plans.items) }
 {
@@ -141,13 +143,13 @@ where
     ensures mismatch { IfErr result IsRunMismatchOnly }
     // All parts of the tree are there when it is closed, since nobody else has one.
     ensures missing { IfErr result IsRunNoneMissing }
-    // Each plan has a body for each child that an opening makes, or that is why it isn't run, or memory was refused.
+    // Each plan has a body for each child that an opening makes; or that is why it isn't run, or memory was refused, and the plans
+    // come back as they were.
     ensures bodies { OnOk result (HaveBodies plans.items) }
     ensures opened { IfErr result (IsRunOpenFault plans.items) }
 {
     let Ok(stop) = Stop::new(alloc) else {
-        drop(plans);
-        return Err(RunFault::Open(SystemFault::OutOfMemory));
+        return Err(RunFault::Open(Unopened::for_memory(plans)));
     };
     let callers = Vec::new(alloc);
     run_spanned(
@@ -187,7 +189,8 @@ where
     ensures mismatch { IfErr result IsRunMismatchOnly }
     // All parts of the tree are there when it is closed, since nobody else has one.
     ensures missing { IfErr result IsRunNoneMissing }
-    // Each plan has a body for each child that an opening makes, or that is why it isn't run, or memory was refused.
+    // Each plan has a body for each child that an opening makes; or that is why it isn't run, or memory was refused, and the plans
+    // come back as they were.
     ensures bodies { OnOk result (HaveBodies plans.items) }
     ensures opened { IfErr result (IsRunOpenFault plans.items) }
 {
@@ -202,9 +205,8 @@ where
         plans.len(),
         hands,
     ) else {
-        drop(plans);
         close_callers(rt, callers);
-        return Err(RunFault::Open(SystemFault::OutOfMemory));
+        return Err(RunFault::Open(Unopened::for_memory(plans)));
     };
     let report = serve_tree(rt, alloc, plans, hands, &crew);
     close_callers(rt, callers);

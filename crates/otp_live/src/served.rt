@@ -87,7 +87,7 @@ where
 {
     let opened = match parts.named::<N>(alloc) {
         Ok(opened) => opened,
-        Err(fault) => return Err(RunFault::Open(fault)),
+        Err(back) => return Err(RunFault::Open(back)),
     };
     let Opened {
         system,

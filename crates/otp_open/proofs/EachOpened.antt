@@ -1,4 +1,4 @@
--- Supervisors are opened one after the other, each of the plan at its place.
+-- What is so of each plan, one after the other.
 use Rattle.std.proofs.Common.{◌≡◌, ℕ, ◌+◌, ◌<◌, List, Option, Some, None, Bool, true, false, arith, length, refl, subst, sym}
 use Rattle.std.specs.Prelude.{IfSome, MatchOption, slice_get}
 use Rattle.std.proofs.Math.Arith.{lt_of_le-ne}
@@ -9,7 +9,7 @@ use Rattle.otp_run.specs.Lists.{AllAt}
 use Rattle.otp_open.specs.declared.opening.SystemFault.{SystemFault}
 use Rattle.otp_open.specs.declared.opening.SystemFault.TheVariants as fault
 use Rattle.otp_open.specs.declared.plan.TablePlan.{TablePlan}
-use Rattle.otp_open.specs.Plans.{IsOpenFault, IsUnready, LacksBody}
+use Rattle.otp_open.specs.Plans.{HasBodies, HaveBodies, IsNotBare, IsOpenFault, LacksBody}
 
 module _ {A : Type 0} (P : A → Type 0) (xs : List A) where
   -- what is so of the first ones and of the next is so of one more
@@ -28,9 +28,8 @@ module _ {A : Type 0} (P : A → Type 0) (xs : List A) where
       by (Some x) is = let within = slice_get_within xs k x is in subst (λ (o : Option A). IfSome o P) is (so_far k (omega (arith, within, long)))
       by None is = tt
 
--- why one isn't opened is why none is
-pub unready_fault : {J S : Type 0} (plans : List (TablePlan J S)) (n : ℕ) (plan : TablePlan J S) (why : SystemFault) → slice_get plans n ≡ Some plan
-    → IsUnready n (length plan.bodies.items) plan.supervisor why → IsOpenFault plans why
-unready_fault plans n plan fault.OutOfMemory at is = tt
-unready_fault {J} {S} plans n plan (fault.NoBody table) at is =
-    subst (λ (m : ℕ). MatchOption (slice_get plans m) ⊥ LacksBody) (sym is.0) (subst (λ (o : Option (TablePlan J S)). MatchOption o ⊥ LacksBody) (sym at) is.1)
+-- where each plan has its bodies, none is said to lack one
+pub none_lacks : {J S : Type 0} (plans : List (TablePlan J S)) (why : SystemFault) → HaveBodies plans → IsOpenFault plans why → IsNotBare why
+none_lacks plans fault.OutOfMemory all is = tt
+none_lacks plans (fault.NoBody table) all is =
+    elim (slice_get plans table) as (λ plan. IfSome plan HasBodies → MatchOption plan ⊥ LacksBody → ⊥) [ Some plan ↦ (λ has lacks. omega (arith, has, lacks)) | None ↦ (λ has lacks. lacks) ] (all table) is

@@ -5,3 +5,4 @@ pub mod Handed
 pub mod EachOpened
 pub mod SparePlaces
 pub mod Adds
+pub mod Readies

@@ -48,6 +48,14 @@ module _ {J S : Type 0} where
   front_at P (x ∷ xs) ys all zero = all zero
   front_at P (x ∷ xs) ys all (suc k) = front_at (λ j. P (suc j)) xs ys (λ j. all (suc j)) k
 
+  take_front : (xs ys : List (TablePlan J S)) → take (length xs) (xs ++ ys) ≡ xs
+  take_front [] ys = refl
+  take_front (x ∷ xs) ys = ap (λ l. x ∷ l) (take_front xs ys)
+
+  -- without the spare places the plans are left
+  pub padded_front : (places count : ℕ) (plans all : List (TablePlan J S)) → count ≡ length plans → ArePadded places plans all → take count all ≡ plans
+  padded_front places count plans all many p = ap (λ n. take n all) many ∙ ap (take (length plans)) p.are ∙ take_front plans p.spares
+
   pub padded_bodies : (places : ℕ) (plans all : List (TablePlan J S)) → ArePadded places plans all → HaveBodies all → HaveBodies plans
   padded_bodies places plans all p have = front_at (λ _ plan. HasBodies plan) plans p.spares (subst HaveBodies p.are have)
 

@@ -4,3 +4,4 @@ pub mod Passes
 pub mod Plans
 pub mod Spares
 pub mod Adds
+pub mod Readies

@@ -15,10 +15,10 @@ Lacks bodies plan = bodies < count_opened plan.flags plan.specs
 abbrev pub Suffice : ℕ → Supervisor → Type 0
 Suffice bodies plan = count_opened plan.flags plan.specs ≤ bodies
 
--- why a supervisor of this number, with so many bodies, isn't opened: memory was refused, or a body is lacking
-abbrev pub IsUnready : ℕ → ℕ → Supervisor → SystemFault → Type 0
-IsUnready number bodies plan fault.OutOfMemory = ⊤
-IsUnready number bodies plan (fault.NoBody table) = (table ≡ number) × Lacks bodies plan
+-- no plan is said to lack a body
+abbrev pub IsNotBare : SystemFault → Type 0
+IsNotBare fault.OutOfMemory = ⊤
+IsNotBare (fault.NoBody table) = ⊥
 
 module _ {J S : Type 0} where
   abbrev pub supervisor_in : Option (TablePlan J S) → Option Supervisor

@@ -1,9 +1,8 @@
 //! A hand is made for each scheduler, with a sender to each supervisor and a pass to the counts of each.
-ghost use Rattle.std.specs.Prelude.{◌≡◌, ℕ, ◌+◌, ◌<◌, IfErr, IfOk, OnOk, IfSome, length, map};
+ghost use Rattle.std.specs.Prelude.{◌≡◌, ℕ, ◌+◌, ◌<◌, IfOk, OnOk, IfSome, length, map};
 ghost use Rattle.otp_inbox.specs.Tokens.{first_sender};
 ghost use Rattle.otp_run.specs.Lists.{AllAt};
 ghost use Rattle.otp_open.specs.Opens.{AreOpened, HasRootOnly, IsIdle, IsOpened};
-ghost use Rattle.otp_open.specs.declared.opening.SystemFault.TheVariants.{OutOfMemory};
 ghost use Rattle.otp_hand.specs.Begun.{starts_credited};
 ghost use Rattle.otp_hand.specs.Ended.{ends_sent};
 ghost use Rattle.otp_hand.specs.Hands.{senders_of};
@@ -11,11 +10,11 @@ ghost use Rattle.otp_hand.specs.Sendings.{parts_at, parts_to};
 ghost use Rattle.otp_hand.specs.Standings.{AreSplit};
 ghost use Rattle.otp_open.specs.Passes.{CanRead, IsFresh};
 
-use crate::opening::SystemFault;
+use crate::opening::Site;
 use crate::passes::split_all;
 use otp_counts::CountsPass;
 use otp_hand::places::keep;
-use otp_hand::{Around, Hand, Resting, Runner, Senders, Shared, TreeNaming, Waiting};
+use otp_hand::{Around, Hand, Resting, Runner, Senders, TreeNaming, Waiting};
 use otp_inbox::{InboxNaming, Sender};
 use otp_job::{Body, Process};
 use otp_run::{RunNaming, Scheduler};
@@ -77,7 +76,7 @@ fn begin_first<N: RunNaming, J: Drop, S: Drop>(
 /// not more are there.
 fn split_senders<N: SupNaming, J: Drop, S: Drop>(
     alloc: Global,
-    shared: &Shared<N, J, S>,
+    site: &Site<N, J, S>,
     senders: &mut Senders<N, Body<J, S>>,
     parts: u64,
 ) -> Result<Option<Senders<N, Body<J, S>>>, AllocError>
@@ -94,7 +93,7 @@ fn split_senders<N: SupNaming, J: Drop, S: Drop>(
 {
     let mut list = Vec::new(alloc);
     for place in 0..senders.len() {
-        let inbox = shared.inbox_of(place);
+        let inbox = site.inbox_of(place);
         if inbox.number() != place {
             drop(list);
             return Ok(None);
@@ -114,16 +113,15 @@ fn split_senders<N: SupNaming, J: Drop, S: Drop>(
 /// A hand of a scheduler, with a viewer, a sender to each supervisor and a pass to the counts of each, which are split off.
 fn make_hand<N: TreeNaming, J: Drop, S: Drop>(
     alloc: Global,
-    shared: &Shared<N, J, S>,
+    site: &Site<N, J, S>,
     scheduler: Scheduler<N, J, S>,
     senders: &mut Senders<N, Body<J, S>>,
     passes: &mut Vec<CountsPass>,
     viewer: Viewer<N>,
-) -> Result<Hand<N, J, S>, SystemFault>
+) -> Result<Hand<N, J, S>, AllocError>
     requires { HasRootOnly scheduler }
     ensures scheduler { IfOk result (λ hand. hand.scheduler ≡ scheduler) }
     ensures fresh { IfOk result (λ hand. IsFresh passes.old.items hand) }
-    ensures memory { IfErr result (λ why. why ≡ OutOfMemory) }
     ensures same { OnOk result (passes.new.items ≡ passes.old.items) }
     ensures split { IfOk result (λ hand. AreSplit hand.senders senders.old senders.new) }
     ensures reach { IfOk result (λ hand. length hand.senders ≡ length senders.old) }
@@ -131,16 +129,16 @@ fn make_hand<N: TreeNaming, J: Drop, S: Drop>(
     ensures starts { starts_credited senders.new ≡ starts_credited senders.old }
     ensures ends { ends_sent senders.new ≡ ends_sent senders.old }
 {
-    let Ok(Some(senders)) = split_senders(alloc, shared, senders, 1) else {
+    let Ok(Some(senders)) = split_senders(alloc, site, senders, 1) else {
         drop(scheduler);
         drop(viewer);
-        return Err(SystemFault::OutOfMemory);
+        return Err(AllocError);
     };
     let Ok(passes) = split_all(alloc, passes) else {
         drop(scheduler);
         drop(viewer);
         drop(senders);
-        return Err(SystemFault::OutOfMemory);
+        return Err(AllocError);
     };
     let runner = Runner {
         scheduler,
@@ -163,17 +161,16 @@ fn make_hand<N: TreeNaming, J: Drop, S: Drop>(
 /// A hand for each scheduler. The first has the root's process.
 pub fn make_hands<N: TreeNaming, J: Drop, S: Drop>(
     alloc: Global,
-    shared: &Shared<N, J, S>,
+    site: &Site<N, J, S>,
     schedulers: Vec<Scheduler<N, J, S>>,
     senders: &mut Senders<N, Body<J, S>>,
     passes: &mut Vec<CountsPass>,
     mut viewer: Viewer<N>,
     root: Process<J, S>,
-) -> Result<Vec<Hand<N, J, S>>, SystemFault>
+) -> Result<Vec<Hand<N, J, S>>, AllocError>
     requires { AllAt (IsIdle (length schedulers.items)) schedulers.items }
     ensures opened { IfOk result (λ hands. AreOpened root.ticket (length schedulers.items) hands.items) }
     ensures hands { IfOk result (λ hands. CanRead (length passes.old.items) hands.items) }
-    ensures memory { IfErr result (λ why. why ≡ OutOfMemory) }
     ensures same { OnOk result (passes.new.items ≡ passes.old.items) }
     // What all hands have of the right to send was split off these senders, and each hand reaches as far as they do.
     ensures split { IfOk result (λ hands. (k : ℕ) → parts_at k senders.new + parts_to k (map senders_of hands.items) ≡ parts_at k senders.old) }
@@ -186,8 +183,8 @@ pub fn make_hands<N: TreeNaming, J: Drop, S: Drop>(
     begin_first(&mut schedulers, root)?;
     let mut hands = Vec::new(alloc);
     for scheduler in schedulers {
-        let own = shared.words.split_viewer(&mut viewer);
-        let hand = make_hand(alloc, shared, scheduler, senders, passes, own)?;
+        let own = site.words.split_viewer(&mut viewer);
+        let hand = make_hand(alloc, site, scheduler, senders, passes, own)?;
         keep(&mut hands, hand)?;
     }
     Ok(hands)

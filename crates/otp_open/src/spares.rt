@@ -1,5 +1,5 @@
 //! A tree is opened with more places than supervisors: those that are spare have no children until a supervisor is added there.
-ghost use Rattle.std.specs.Prelude.{◌≡◌, ◌+◌, ◌≤◌, IfErr, IfOk, length, vec_capacity};
+ghost use Rattle.std.specs.Prelude.{◌≡◌, ◌+◌, ◌≤◌, IfErr, IfOk, length, take, vec_capacity};
 ghost use Rattle.otp_open.specs.Spares.{ArePadded, IsSpare};
 
 use crate::plan::TablePlan;
@@ -48,4 +48,16 @@ fn padded<J: Drop, S: Drop>(
         all.push_reserved(spare_plan(alloc));
     }
     all
+}
+
+/// The plans of so many places, the first, without those behind them.
+pub fn without_spares<J: Drop, S: Drop>(
+    plans: Vec<TablePlan<J, S>>,
+    count: usize,
+) -> Vec<TablePlan<J, S>>
+    ensures { result.items ≡ take count plans.items }
+{
+    let mut plans = plans;
+    plans.truncate(count);
+    plans
 }

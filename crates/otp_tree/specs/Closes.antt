@@ -26,7 +26,7 @@ module _ {J S : Type 0} where
   IsRunNoneMissing (run.Open why) = ⊤
   IsRunNoneMissing (run.Close why) = NoneMissing why
 
-  -- why it was not opened: memory was refused, or a plan of these lacks a body
+  -- why it was not opened: memory was refused, or a plan of these lacks a body; and the plans come back as they were
   abbrev pub IsRunOpenFault : List (TablePlan J S) → RunFault J S → Type 0
-  IsRunOpenFault plans (run.Open why) = IsOpenFault plans why
+  IsRunOpenFault plans (run.Open back) = IsOpenFault plans back.fault × (back.plans.items ≡ plans)
   IsRunOpenFault plans (run.Close why) = HaveBodies plans

@@ -93,7 +93,7 @@ pub use listener::Listener;
 pub use opening::{Opened, Parts};
 pub use otp_close::CloseFault;
 pub use otp_hand::{Client, Hand, Senders, TreeNaming};
-pub use otp_open::{SystemFault, TableDraft, TablePlan, Unplanned};
+pub use otp_open::{SystemFault, TableDraft, TablePlan, Unopened, Unplanned};
 pub use otp_report::{Mismatch, Report, TableReport};
 pub use pool::{MAX_HANDS, pool_run};
 pub use rounds::{CallEnd, CallId, CallRequest, Leader, Led, Round, lead};

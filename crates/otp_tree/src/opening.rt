@@ -1,5 +1,6 @@
-//! A tree is opened: its parts without a name first, then the tree under a name.
-ghost use Rattle.std.specs.Prelude.{◌≡◌, ◌+◌, ◌*◌, ◌<◌, ◌≤◌, ℕ, None, [], IfErr, IfOk, IfSome, OnOk, length, is_some, true};
+//! A tree is opened: its parts without a name first, then the tree under a name. All memory is taken while the plans are only lent, so
+//! that a refusal gives them back as they were.
+ghost use Rattle.std.specs.Prelude.{◌≡◌, ◌+◌, ◌*◌, ◌<◌, ◌≤◌, ℕ, None, [], IfErr, IfOk, IfSome, OnOk, length, is_some, true, vec_capacity};
 ghost use Rattle.otp_spec.specs.declared.limits.TheConstants.{MAX_TABLES};
 ghost use Rattle.otp_close.specs.Closes.{IsReached, all_senders};
 ghost use Rattle.otp_close.specs.Partings.{schedulers_of};
@@ -9,17 +10,21 @@ ghost use Rattle.otp_run.specs.Rule.{all_parts};
 ghost use Rattle.otp_open.specs.Opens.{AreOpened, root_ticket, slots_of};
 ghost use Rattle.otp_open.specs.Passes.{CanRead};
 ghost use Rattle.otp_open.specs.Plans.{ArePlanned, HaveBodies, IsOpenFault};
+ghost use Rattle.otp_open.specs.Readies.{AreReadyFor};
 
 use crate::growth::Growth;
 use crate::system::System;
 use otp_counts::CountsPass;
-use otp_hand::{Client, Hand, ROOT_NUMBER, ROOT_SLOT, Shared, TreeNaming};
+use otp_hand::{Client, Hand, ROOT_NUMBER, ROOT_SLOT, TreeNaming};
 use otp_inbox::UnnamedInbox;
 use otp_job::{Body, Process, TableNo};
-use otp_open::{Named, SLOTS, SystemFault, TablePlan, make_hands, open_all, open_inboxes, seat};
+use otp_open::{
+    Readied, SLOTS, Site, SystemFault, TablePlan, Unopened, find_lacking, make_hands, open_inboxes,
+    ready_all, seat,
+};
 use otp_run::RunQueue;
 use otp_signals::OpenWords;
-use otp_sup::{Letter, Message};
+use otp_sup::{Letter, Message, Sup};
 use std::alloc::{AllocError, Global};
 
 /// The parts of a tree, without a name.
@@ -43,12 +48,13 @@ pub struct Opened<N: TreeNaming, J: Drop, S: Drop> {
 }
 
 impl<J: Drop, S: Drop> Parts<J, S> {
-    /// The parts of a tree of 1 to [`MAX_TABLES`] supervisors, the root first, for 1 to 8 hands.
+    /// The parts of a tree of 1 to [`MAX_TABLES`] supervisors, the root first, for 1 to 8 hands. Where memory is refused the plans come
+    /// back.
     pub fn open(
         alloc: Global,
         plans: Vec<TablePlan<J, S>>,
         hands: usize,
-    ) -> Result<Parts<J, S>, AllocError>
+    ) -> Result<Parts<J, S>, Unopened<J, S>>
         requires tables { length plans.items ≤ MAX_TABLES }
         requires some { 0 < hands }
         requires few { hands ≤ all_parts }
@@ -57,28 +63,26 @@ impl<J: Drop, S: Drop> Parts<J, S> {
         ensures few { IfOk result (λ p. length p.inboxes.items ≤ MAX_TABLES) }
         ensures hands { IfOk result (λ p. length p.queue ≡ hands) }
         ensures plans { IfOk result (λ p. p.plans ≡ plans) }
+        ensures fault { IfErr result (λ back. IsOpenFault plans.items back.fault) }
+        ensures back { IfErr result (λ back. back.plans.items ≡ plans.items) }
     {
         let Ok(words) = OpenWords::open(alloc, 1 + SLOTS * plans.len()) else {
-            drop(plans);
-            return Err(AllocError);
+            return Err(Unopened::for_memory(plans));
         };
         let Ok(inboxes) = open_inboxes(alloc, plans.len()) else {
-            drop(plans);
             drop(words);
-            return Err(AllocError);
+            return Err(Unopened::for_memory(plans));
         };
         let Ok(outer) = UnnamedInbox::open(alloc) else {
-            drop(plans);
             drop(words);
             drop(inboxes);
-            return Err(AllocError);
+            return Err(Unopened::for_memory(plans));
         };
         let Ok(queue) = RunQueue::open(alloc, hands) else {
-            drop(plans);
             drop(words);
             drop(inboxes);
             drop(outer);
-            return Err(AllocError);
+            return Err(Unopened::for_memory(plans));
         };
         Ok(Parts {
             words,
@@ -90,9 +94,119 @@ impl<J: Drop, S: Drop> Parts<J, S> {
     }
 }
 
+/// A tree that is ready to be opened: all that takes memory is there, and only the plans are lacking.
+#[derive(Drop)]
+struct ReadyTree<N: TreeNaming, J: Drop, S: Drop> {
+    site: Site<N, J, S>,
+    /// The room for the supervisors.
+    sups: Vec<Sup<N, Body<J, S>>>,
+    hands: Vec<Hand<N, J, S>>,
+    client: Client<N, Body<J, S>>,
+    passes: Vec<CountsPass>,
+}
+
+/// The parts of a tree but its plans.
+#[derive(Drop)]
+struct Bare<J: Drop, S: Drop> {
+    words: OpenWords,
+    inboxes: Vec<UnnamedInbox<Message, Letter<Body<J, S>>>>,
+    outer: UnnamedInbox<Message, Letter<Body<J, S>>>,
+    queue: RunQueue<J, S>,
+}
+
+impl<J: Drop, S: Drop> Bare<J, S> {
+    /// Takes all memory that a tree of these plans needs, with its hands and its first client.
+    fn ready<N: TreeNaming>(
+        self,
+        alloc: Global,
+        plans: &[TablePlan<J, S>],
+    ) -> Result<ReadyTree<N, J, S>, AllocError>
+        requires words { self.words.words ≡ N.words }
+        requires inboxes { AllAt (λ k id. id ≡ N.inbox k) self.inboxes.items }
+        requires as_many { length plans.now ≡ length self.inboxes.items }
+        requires outer { self.outer ≡ N.inbox (length self.inboxes.items) }
+        requires deques { AllAt (λ k id. id ≡ N.deque k) self.queue }
+        requires slots { self.words.slots ≡ slots_of (length self.inboxes.items) }
+        requires few { length self.inboxes.items ≤ MAX_TABLES }
+        ensures places { IfOk result (λ r. AreReadyFor 0 plans.now r.site.places.items) }
+        ensures outer { IfOk result (λ r. r.site.outer ≡ length r.site.places.items) }
+        ensures none { IfOk result (λ r. r.sups.items ≡ []) }
+        ensures room { IfOk result (λ r. length plans.now ≤ vec_capacity r.sups) }
+        ensures first { IfOk result (λ r. is_some r.client.waiter ≡ true) }
+        ensures passes { IfOk result (λ r. CanRead (length self.inboxes.items) r.hands.items) }
+        ensures hands { IfOk result (λ r. AreOpened (root_ticket (length self.inboxes.items)) (length self.queue) r.hands.items) }
+        ensures complete { IfOk result (λ r. 0 < length self.queue → IsAll (schedulers_of r.hands.items) × IsReached (length self.inboxes.items) r.client (all_senders r.client r.hands.items)) }
+        ensures own { IfOk result (λ r. length r.passes.items ≡ length self.inboxes.items) }
+        ensures unasked { IfOk result (λ r. r.client.owner.posts ≡ []) }
+    {
+        let Bare {
+            words,
+            inboxes,
+            outer,
+            queue,
+        } = self;
+        let tables = inboxes.len();
+        let (words, mut owner) = words.named::<N>();
+        let viewer = words.viewer(&mut owner);
+        let Readied {
+            places,
+            senders,
+            mut passes,
+        } = ready_all(alloc, &words, &mut owner, inboxes, plans)?;
+        let (outer, waiter, sender) = outer.named::<N>(tables);
+        let mut senders = seat(senders, sender)?;
+        let site = Site {
+            words,
+            places,
+            outer,
+        };
+        let schedulers = queue.named::<N>(alloc)?;
+        let body = Body::Sup(TableNo::new(0));
+        let Ok(process) = Process::new(alloc, ROOT_NUMBER, ROOT_SLOT, tables, body) else {
+            return Err(AllocError);
+        };
+        let hands = make_hands(
+            alloc,
+            &site,
+            schedulers,
+            &mut senders,
+            &mut passes,
+            viewer,
+            process,
+        )?;
+        let sups = Vec::with_capacity(alloc, plans.len())?;
+        let client = Client::first(owner, senders, waiter);
+        Ok(ReadyTree {
+            site,
+            sups,
+            hands,
+            client,
+            passes,
+        })
+    }
+}
+
 impl<J: Drop, S: Drop> Parts<J, S> {
-    /// The tree under a name, with its hands and its first client.
-    pub fn named<N: TreeNaming>(self, alloc: Global) -> Result<Opened<N, J, S>, SystemFault>
+    /// The plans alone.
+    pub(crate) fn into_plans(self) -> Vec<TablePlan<J, S>>
+        ensures { result ≡ self.plans }
+    {
+        let Parts {
+            words,
+            inboxes,
+            outer,
+            queue,
+            plans,
+        } = self;
+        drop(words);
+        drop(inboxes);
+        drop(outer);
+        drop(queue);
+        plans
+    }
+
+    /// The tree under a name, with its hands and its first client. Where memory is refused, or a plan lacks a body, the plans come back.
+    pub fn named<N: TreeNaming>(self, alloc: Global) -> Result<Opened<N, J, S>, Unopened<J, S>>
         requires words { self.words.words ≡ N.words }
         requires inboxes { AllAt (λ k id. id ≡ N.inbox k) self.inboxes.items }
         requires plans { ArePlanned N.plan self.plans.items }
@@ -104,7 +218,8 @@ impl<J: Drop, S: Drop> Parts<J, S> {
         ensures first { IfOk result (λ o. is_some o.client.waiter ≡ true) }
         ensures tables { IfOk result (λ o. o.system.tables ≡ length self.inboxes.items) }
         ensures bodies { OnOk result (HaveBodies self.plans.items) }
-        ensures fault { IfErr result (IsOpenFault self.plans.items) }
+        ensures fault { IfErr result (λ back. IsOpenFault self.plans.items back.fault) }
+        ensures back { IfErr result (λ back. back.plans.items ≡ self.plans.items) }
         ensures passes { IfOk result (λ o. CanRead (length self.inboxes.items) o.hands.items) }
         // There are as many hands as were asked for, in the order of their schedulers, and the first has put the root's process: it
         // has the number and the slot for which the client stops it.
@@ -115,6 +230,12 @@ impl<J: Drop, S: Drop> Parts<J, S> {
         // Nobody was asked to stop.
         ensures unasked { IfOk result (λ o. o.client.owner.posts ≡ []) }
     {
+        if let Some(table) = find_lacking(self.plans.as_slice()) {
+            return Err(Unopened {
+                fault: SystemFault::NoBody { table },
+                plans: self.into_plans(),
+            });
+        }
         let Parts {
             words,
             inboxes,
@@ -122,35 +243,25 @@ impl<J: Drop, S: Drop> Parts<J, S> {
             queue,
             plans,
         } = self;
-        let tables = inboxes.len();
-        let (words, mut owner) = words.named::<N>();
-        let viewer = words.viewer(&mut owner);
-        let Named {
-            sups,
-            senders,
-            mut passes,
-        } = open_all(alloc, &words, &mut owner, inboxes, plans)?;
-        let (outer, waiter, sender) = outer.named::<N>(tables);
-        let mut senders = seat(senders, sender)?;
-        let shared = Shared { words, sups, outer };
-        let schedulers = queue.named::<N>(alloc)?;
-        let body = Body::Sup(TableNo::new(0));
-        let Ok(process) = Process::new(alloc, ROOT_NUMBER, ROOT_SLOT, tables, body) else {
-            return Err(SystemFault::OutOfMemory);
+        let bare = Bare {
+            words,
+            inboxes,
+            outer,
+            queue,
         };
-        let hands = make_hands(
-            alloc,
-            &shared,
-            schedulers,
-            &mut senders,
-            &mut passes,
-            viewer,
-            process,
-        )?;
-        let client = Client::first(owner, senders, waiter);
+        let Ok(ready) = bare.ready::<N>(alloc, plans.as_slice()) else {
+            return Err(Unopened::for_memory(plans));
+        };
+        let ReadyTree {
+            site,
+            sups,
+            hands,
+            client,
+            passes,
+        } = ready;
         Ok(Opened {
             system: System {
-                shared,
+                shared: site.open(alloc, plans, sups),
                 growth: None,
             },
             hands,
@@ -164,7 +275,7 @@ impl<J: Drop, S: Drop> Parts<J, S> {
         self,
         alloc: Global,
         opened: usize,
-    ) -> Result<Opened<N, J, S>, SystemFault>
+    ) -> Result<Opened<N, J, S>, Unopened<J, S>>
         requires words { self.words.words ≡ N.words }
         requires inboxes { AllAt (λ k id. id ≡ N.inbox k) self.inboxes.items }
         requires plans { ArePlanned N.plan self.plans.items }
@@ -177,13 +288,13 @@ impl<J: Drop, S: Drop> Parts<J, S> {
         ensures first { IfOk result (λ o. is_some o.client.waiter ≡ true) }
         ensures tables { IfOk result (λ o. o.system.tables ≡ length self.inboxes.items) }
         ensures bodies { OnOk result (HaveBodies self.plans.items) }
-        ensures fault { IfErr result (IsOpenFault self.plans.items) }
+        ensures fault { IfErr result (λ back. IsOpenFault self.plans.items back.fault) }
+        ensures back { IfErr result (λ back. back.plans.items ≡ self.plans.items) }
         ensures passes { IfOk result (λ o. CanRead (length self.inboxes.items) o.hands.items) }
         ensures complete { IfOk result (λ o. 0 < length self.queue → IsAll (schedulers_of o.hands.items) × IsReached o.system.tables o.client (all_senders o.client o.hands.items)) }
     {
         let Ok(growth) = Growth::open(alloc, opened) else {
-            drop(self);
-            return Err(SystemFault::OutOfMemory);
+            return Err(Unopened::for_memory(self.into_plans()));
         };
         match self.named::<N>(alloc) {
             Ok(all) => {
@@ -200,9 +311,9 @@ impl<J: Drop, S: Drop> Parts<J, S> {
                     passes,
                 })
             }
-            Err(fault) => {
+            Err(back) => {
                 drop(growth);
-                Err(fault)
+                Err(back)
             }
         }
     }

@@ -19,7 +19,7 @@ use otp_core::ReplyAnswer;
 use otp_hand::{Client, Hand, TreeNaming};
 use otp_inbox::InboxNaming;
 use otp_job::{Body, Job};
-use otp_open::{SystemFault, TablePlan};
+use otp_open::{TablePlan, Unopened};
 use otp_reason::Note;
 use otp_report::Report;
 use otp_rules::{Call, Reply};
@@ -109,6 +109,10 @@ pub struct Led<J: Drop, S: Drop, L: Leader<J, S>> {
 ///
 /// A round ends when each hand has made its turns. The gate is asked before each turn of a hand, in the hand's own thread, and
 /// told where there was nothing to do for any.
+///
+/// # Errors
+///
+/// [`SystemFault`](otp_open::SystemFault), with the plans as they were; the leader is dropped.
 pub fn lead<R, J, S, G, L>(
     rt: &R,
     alloc: Global,
@@ -117,7 +121,7 @@ pub fn lead<R, J, S, G, L>(
     gate: &G,
     rounds: u64,
     leader: L,
-) -> Result<Led<J, S, L>, SystemFault>
+) -> Result<Led<J, S, L>, Unopened<J, S>>
 where
     R: Threads + Wait + Sync,
     J: Job + Send,
@@ -135,9 +139,16 @@ where
     ensures missing { IfOk result (λ led. IfErr led.report NoneMissing) }
     // Each plan has a body for each child that an opening makes, or that is why it isn't led, or memory was refused.
     ensures bodies { OnOk result (HaveBodies plans.items) }
-    ensures fault { IfErr result (IsOpenFault plans.items) }
+    ensures fault { IfErr result (λ back. IsOpenFault plans.items back.fault) }
+    ensures back { IfErr result (λ back. back.plans.items ≡ plans.items) }
 {
-    let parts = Parts::open(alloc, plans, hands)?;
+    let parts = match Parts::open(alloc, plans, hands) {
+        Ok(parts) => parts,
+        Err(back) => {
+            drop(leader);
+            return Err(back);
+        }
+    };
     lead_named::<Brand, R, J, S, G, L>(rt, alloc, parts, gate, rounds, leader)
 }
 
@@ -149,7 +160,7 @@ fn lead_named<N, R, J, S, G, L>(
     gate: &G,
     rounds: u64,
     mut leader: L,
-) -> Result<Led<J, S, L>, SystemFault>
+) -> Result<Led<J, S, L>, Unopened<J, S>>
 where
     N: WordsNaming + InboxNaming + PlanNaming + RunNaming + Send + Sync,
     R: Threads + Wait + Sync,
@@ -171,13 +182,14 @@ where
     ensures mismatch { IfOk result (λ led. IfErr led.report IsMismatchOnly) }
     ensures missing { IfOk result (λ led. IfErr led.report NoneMissing) }
     ensures bodies { OnOk result (HaveBodies parts.plans.items) }
-    ensures fault { IfErr result (IsOpenFault parts.plans.items) }
+    ensures fault { IfErr result (λ back. IsOpenFault parts.plans.items back.fault) }
+    ensures back { IfErr result (λ back. back.plans.items ≡ parts.plans.items) }
 {
     let opened = match parts.named::<N>(alloc) {
         Ok(opened) => opened,
-        Err(fault) => {
+        Err(back) => {
             drop(leader);
-            return Err(fault);
+            return Err(back);
         }
     };
     let Opened {

@@ -13,7 +13,7 @@ use crate::system::System;
 use otp_hand::{Client, Hand, TreeNaming};
 use otp_inbox::InboxNaming;
 use otp_job::Body;
-use otp_open::{SystemFault, TablePlan, with_spares};
+use otp_open::{TablePlan, Unopened, with_spares, without_spares};
 use otp_run::RunNaming;
 use otp_signals::WordsNaming;
 use otp_sup::PlanNaming;
@@ -45,21 +45,32 @@ pub trait Session<R, J: Drop, S: Drop>: Drop {
 }
 
 /// Opens a tree of 1 to 64 supervisors, the root first, for 1 to 8 hands, and runs a session with it.
+///
+/// # Errors
+///
+/// [`SystemFault`](otp_open::SystemFault), with the plans as they were; the session is dropped.
 pub fn with_system<R, J: Drop, S: Drop, T: Session<R, J, S>>(
     rt: &R,
     alloc: Global,
     plans: Vec<TablePlan<J, S>>,
     hands: usize,
     session: T,
-) -> Result<T::Output, SystemFault>
+) -> Result<T::Output, Unopened<J, S>>
     requires tables { length plans.items ≤ MAX_TABLES }
     requires some { 0 < hands }
     requires few { hands ≤ all_parts }
     // Each plan has a body for each child that an opening makes, or that is why there was no session, or memory was refused.
     ensures bodies { OnOk result (HaveBodies plans.items) }
-    ensures fault { IfErr result (IsOpenFault plans.items) }
+    ensures fault { IfErr result (λ back. IsOpenFault plans.items back.fault) }
+    ensures back { IfErr result (λ back. back.plans.items ≡ plans.items) }
 {
-    let parts = Parts::open(alloc, plans, hands)?;
+    let parts = match Parts::open(alloc, plans, hands) {
+        Ok(parts) => parts,
+        Err(back) => {
+            drop(session);
+            return Err(back);
+        }
+    };
     run_named::<Brand, R, J, S, T>(rt, alloc, parts, session)
 }
 
@@ -70,7 +81,7 @@ fn run_named<
     J: Drop,
     S: Drop,
     T: Session<R, J, S>,
->(rt: &R, alloc: Global, parts: Parts<J, S>, session: T) -> Result<T::Output, SystemFault>
+>(rt: &R, alloc: Global, parts: Parts<J, S>, session: T) -> Result<T::Output, Unopened<J, S>>
     requires words { parts.words.words ≡ N.words }
     requires inboxes { AllAt (λ k id. id ≡ N.inbox k) parts.inboxes.items }
     requires plans { ArePlanned N.plan parts.plans.items }
@@ -81,13 +92,14 @@ fn run_named<
     requires few { length parts.inboxes.items ≤ MAX_TABLES }
     requires some { 0 < length parts.queue }
     ensures bodies { OnOk result (HaveBodies parts.plans.items) }
-    ensures fault { IfErr result (IsOpenFault parts.plans.items) }
+    ensures fault { IfErr result (λ back. IsOpenFault parts.plans.items back.fault) }
+    ensures back { IfErr result (λ back. back.plans.items ≡ parts.plans.items) }
 {
     let opened = match parts.named::<N>(alloc) {
         Ok(opened) => opened,
-        Err(fault) => {
+        Err(back) => {
             drop(session);
-            return Err(fault);
+            return Err(back);
         }
     };
     let Opened {
@@ -104,6 +116,10 @@ fn run_named<
 /// the plans, the root first; to the others supervisors can be added while it runs ([`System::add_tree`]).
 ///
 /// Each place has an inbox, a way to it in each hand and client, 256 signal words, and a word for its counts from the opening on.
+///
+/// # Errors
+///
+/// As [`with_system`].
 pub fn with_growing_system<R, J: Drop, S: Drop, T: Session<R, J, S>>(
     rt: &R,
     alloc: Global,
@@ -111,26 +127,57 @@ pub fn with_growing_system<R, J: Drop, S: Drop, T: Session<R, J, S>>(
     places: usize,
     hands: usize,
     session: T,
-) -> Result<T::Output, SystemFault>
+) -> Result<T::Output, Unopened<J, S>>
     requires tables { length plans.items ≤ places }
     requires places { places ≤ MAX_TABLES }
     requires some { 0 < hands }
     requires few { hands ≤ all_parts }
     ensures bodies { OnOk result (HaveBodies plans.items) }
-    ensures fault { IfErr result (IsOpenFault plans.items) }
+    ensures fault { IfErr result (λ back. IsOpenFault plans.items back.fault) }
+    ensures back { IfErr result (λ back. back.plans.items ≡ plans.items) }
 {
     let opened = plans.len();
     let all = match with_spares(alloc, plans, places) {
         Ok(all) => all,
         Err(plans) => {
-            drop(plans);
             drop(session);
-            return Err(SystemFault::OutOfMemory);
+            return Err(Unopened::for_memory(plans));
         }
     };
-    let Ok(parts) = Parts::open(alloc, all, hands) else {
-        drop(session);
-        return Err(SystemFault::OutOfMemory);
+    match run_padded(rt, alloc, all, opened, hands, session) {
+        Ok(output) => Ok(output),
+        Err(back) => {
+            let Unopened { fault, plans } = back;
+            Err(Unopened {
+                fault,
+                plans: without_spares(plans, opened),
+            })
+        }
+    }
+}
+
+/// The same with the plans of spare places behind the others. Where the tree isn't opened all come back.
+fn run_padded<R, J: Drop, S: Drop, T: Session<R, J, S>>(
+    rt: &R,
+    alloc: Global,
+    plans: Vec<TablePlan<J, S>>,
+    opened: usize,
+    hands: usize,
+    session: T,
+) -> Result<T::Output, Unopened<J, S>>
+    requires tables { length plans.items ≤ MAX_TABLES }
+    requires some { 0 < hands }
+    requires few { hands ≤ all_parts }
+    ensures bodies { OnOk result (HaveBodies plans.items) }
+    ensures fault { IfErr result (λ back. IsOpenFault plans.items back.fault) }
+    ensures back { IfErr result (λ back. back.plans.items ≡ plans.items) }
+{
+    let parts = match Parts::open(alloc, plans, hands) {
+        Ok(parts) => parts,
+        Err(back) => {
+            drop(session);
+            return Err(back);
+        }
     };
     run_growing::<Brand, R, J, S, T>(rt, alloc, parts, opened, session)
 }
@@ -147,7 +194,7 @@ fn run_growing<
     parts: Parts<J, S>,
     opened: usize,
     session: T,
-) -> Result<T::Output, SystemFault>
+) -> Result<T::Output, Unopened<J, S>>
     requires words { parts.words.words ≡ N.words }
     requires inboxes { AllAt (λ k id. id ≡ N.inbox k) parts.inboxes.items }
     requires plans { ArePlanned N.plan parts.plans.items }
@@ -159,13 +206,14 @@ fn run_growing<
     requires few { length parts.inboxes.items ≤ MAX_TABLES }
     requires some { 0 < length parts.queue }
     ensures bodies { OnOk result (HaveBodies parts.plans.items) }
-    ensures fault { IfErr result (IsOpenFault parts.plans.items) }
+    ensures fault { IfErr result (λ back. IsOpenFault parts.plans.items back.fault) }
+    ensures back { IfErr result (λ back. back.plans.items ≡ parts.plans.items) }
 {
     let all = match parts.named_growing::<N>(alloc, opened) {
         Ok(all) => all,
-        Err(fault) => {
+        Err(back) => {
             drop(session);
-            return Err(fault);
+            return Err(back);
         }
     };
     let Opened {

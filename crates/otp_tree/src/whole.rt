@@ -20,13 +20,13 @@ use otp_hand::reading::read_each;
 use otp_hand::{Client, Hand, TreeNaming};
 use otp_inbox::InboxNaming;
 use otp_job::{Body, Job};
-use otp_open::{SystemFault, TablePlan};
+use otp_open::{TablePlan, Unopened};
 use otp_report::Report;
 use otp_rules::CountsNow;
 use otp_run::RunNaming;
 use otp_signals::WordsNaming;
 use otp_sup::PlanNaming;
-use std::alloc::{AllocError, Global};
+use std::alloc::Global;
 use std::marker::Brand;
 use std::sync::Wait;
 use std::thread::Threads;
@@ -34,31 +34,19 @@ use std::thread::Threads;
 /// Why a tree that was run has no report.
 #[derive(Drop)]
 pub enum RunFault<J: Drop, S: Drop> {
-    /// It was not opened.
-    Open(SystemFault),
+    /// It was not opened. Its plans come back.
+    Open(Unopened<J, S>),
     /// It was not closed, or its report tells of a mismatch.
     Close(CloseFault<J, S, ()>),
 }
 
-impl<J: Drop, S: Drop> From<AllocError> for RunFault<J, S> {
-    ghost use Rattle.std.specs.Prelude.{◌≡◌};
-    ghost use Rattle.otp_open.specs.declared.opening.SystemFault.TheVariants.{OutOfMemory};
-    ghost use Rattle.otp_tree.specs.declared.whole.RunFault.TheVariants.{Open};
-
-    ghost from_gives = { λ _ fault. fault ≡ Open OutOfMemory };
-
-    fn from(_: AllocError) -> Self {
-        RunFault::Open(SystemFault::OutOfMemory)
-    }
-}
-
-impl<J: Drop, S: Drop> From<SystemFault> for RunFault<J, S> {
+impl<J: Drop, S: Drop> From<Unopened<J, S>> for RunFault<J, S> {
     ghost use Rattle.std.specs.Prelude.{◌≡◌};
     ghost use Rattle.otp_tree.specs.declared.whole.RunFault.TheVariants.{Open};
 
     ghost from_gives = { λ why fault. fault ≡ Open why };
 
-    fn from(why: SystemFault) -> Self {
+    fn from(why: Unopened<J, S>) -> Self {
         RunFault::Open(why)
     }
 }
@@ -200,7 +188,8 @@ where
     ensures mismatch { IfErr result IsRunMismatchOnly }
     // All parts of the tree are there when it is closed, since nobody else has one.
     ensures missing { IfErr result IsRunNoneMissing }
-    // Each plan has a body for each child that an opening makes, or that is why it isn't run, or memory was refused.
+    // Each plan has a body for each child that an opening makes; or that is why it isn't run, or memory was refused, and the plans
+    // come back as they were.
     ensures bodies { OnOk result (HaveBodies plans.items) }
     ensures opened { IfErr result (IsRunOpenFault plans.items) }
 {
@@ -240,14 +229,14 @@ where
     ensures opened { IfErr result (IsRunOpenFault parts.plans.items) }
 {
     let Ok(mut counts) = Vec::with_capacity(alloc, parts.inboxes.len()) else {
-        drop(parts);
-        return Err(RunFault::Open(SystemFault::OutOfMemory));
+        let back = Unopened::for_memory(parts.into_plans());
+        return Err(RunFault::Open(back));
     };
     let opened = match parts.named::<N>(alloc) {
         Ok(opened) => opened,
-        Err(fault) => {
+        Err(back) => {
             drop(counts);
-            return Err(RunFault::Open(fault));
+            return Err(RunFault::Open(back));
         }
     };
     let Opened {

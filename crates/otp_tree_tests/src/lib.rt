@@ -19,6 +19,8 @@ mod lives;
 #[cfg(test)]
 mod looks;
 #[cfg(test)]
+mod openings;
+#[cfg(test)]
 mod script;
 #[cfg(test)]
 mod sessions;

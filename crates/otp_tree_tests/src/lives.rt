@@ -8,12 +8,15 @@ use crate::gates::{Clock, Wait as Before};
 use crate::guests::{
     Child, Common, Kind, Plan, TOO_OFTEN, Worker, again, both, common, crowd, one, plan_of,
 };
+use crate::openings::{Back, sizes_of};
 use crate::script::{Question, Script, Seen, Step};
 use otp_bridge::BoxedSubsystem;
 use otp_reason::Reason;
 use otp_rules::{Call, Cause, Item};
 use otp_spec::MAX_TABLES;
-use otp_tree::{Led, MAX_HANDS, Report, SystemFault, TableReport, lead, run_tree};
+use otp_tree::{
+    Led, MAX_HANDS, Report, RunFault, SystemFault, TableReport, Unopened, lead, run_tree,
+};
 use std::alloc::Global;
 use std::process::Abort;
 use std::sync::Wait;
@@ -22,7 +25,7 @@ use std::thread::Threads;
 
 pub(crate) type Closed = Report<Worker, BoxedSubsystem>;
 
-type LedSo = Result<Led<Worker, BoxedSubsystem, Script>, SystemFault>;
+type LedSo = Result<Led<Worker, BoxedSubsystem, Script>, Back>;
 
 /// Which tree it is.
 #[derive(Clone, Copy, Debug, PartialEq, Eq)]
@@ -361,15 +364,15 @@ fn each_hand_has_a_thread_of_its_own(rt: HostRuntime) {
     drop(lived);
 }
 
-// Why a tree isn't led; whatever was led is let go.
-fn fault_of(led: LedSo) -> Option<SystemFault> {
+// What comes back of a tree that isn't led.
+fn back_of(rt: &impl Abort, led: LedSo) -> Back {
     match led {
         Ok(Led { leader, report }) => {
             drop(leader);
             drop(report);
-            None
+            panic!(rt; "it was led")
         }
-        Err(fault) => Some(fault),
+        Err(back) => back,
     }
 }
 
@@ -380,7 +383,7 @@ fn lose_a_body(plans: &mut Vec<Plan>) {
     }
 }
 
-// The nested supervisor has two children and one body.
+// The nested supervisor has two children and one body. The plans come back as they were.
 #[test]
 fn a_refused_table_is_told_by_its_number(rt: HostRuntime) {
     let shared = common(&rt, rt.alloc());
@@ -388,10 +391,30 @@ fn a_refused_table_is_told_by_its_number(rt: HostRuntime) {
     lose_a_body(&mut plans);
     let clock = Clock::new(again(&rt, &shared), 0, Before::Nothing);
     let script = Script::new(&rt, rt.alloc(), shared, ONCE.steps, 1);
-    let fault = fault_of(led(&rt, rt.alloc(), plans, 2, &clock, script));
-    drop(clock);
-    let wanted = Some(SystemFault::NoBody { table: 1 });
+    let Unopened { fault, plans } = back_of(&rt, led(&rt, rt.alloc(), plans, 2, &clock, script));
+    let wanted = SystemFault::NoBody { table: 1 };
     same(&rt, "the fault", fault, wanted);
+    let sizes = (2, 2, 1);
+    same(&rt, "the plans", sizes_of(plans.as_slice()), sizes);
+    // The same of a tree that is run in one call.
+    may_run(&rt, plans.as_slice(), 2);
+    match run_tree(&rt, rt.alloc(), plans, 2, &clock, 1) {
+        Err(RunFault::Open(back)) => {
+            let Unopened { fault, plans } = back;
+            same(&rt, "the fault", fault, wanted);
+            same(&rt, "the plans", sizes_of(plans.as_slice()), sizes);
+            drop(plans);
+        }
+        Err(RunFault::Close(fault)) => {
+            drop(fault);
+            panic!(rt; "it was run");
+        }
+        Ok(report) => {
+            drop(report);
+            panic!(rt; "it was run");
+        }
+    }
+    drop(clock);
 }
 
 // A call that nobody took, since no turn was made after it.

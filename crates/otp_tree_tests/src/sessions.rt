@@ -2,15 +2,14 @@
 
 use crate::fixtures::{MEMORY, got, same};
 use crate::gates::Still;
-use crate::guests::{Common, Worker, common};
+use crate::guests::{Common, Plan, Worker, again, common};
 use crate::lives::{Closed, Grove, check_pair, plans_of};
+use crate::openings::{Back, plans_back};
 use otp_bridge::BoxedSubsystem;
 use otp_job::Body;
 use otp_reason::{Note, Reason};
 use otp_rules::CountsNow;
-use otp_tree::{
-    Client, CloseFault, Hand, Session, System, SystemFault, TreeNaming, Unclosed, with_system,
-};
+use otp_tree::{Client, CloseFault, Hand, Session, System, TreeNaming, Unclosed, with_system};
 use std::alloc::Global;
 use std::process::Abort;
 use std::sync::Wait;
@@ -144,30 +143,42 @@ fn close_once<N: TreeNaming, R: Wait>(
     system.close(rt, alloc, hands, client)
 }
 
-// The whole life of the tree, closed first without one of its hands. False where memory was refused at its opening.
-fn close_whole<R: Wait + Abort>(rt: &R, alloc: Global) -> bool {
-    let shared = common(rt, alloc);
-    let plans = plans_of(rt, alloc, Grove::Pair, &shared);
+// The whole life of the tree, closed first without one of its hands. Where memory is refused at its opening the plans come back.
+fn close_whole<R: Wait + Abort>(
+    rt: &R,
+    alloc: Global,
+    plans: Vec<Plan>,
+    shared: &Common,
+) -> Result<Closed, Back> {
     assert!(rt; plans.len() <= 64);
-    match with_system(rt, alloc, plans, 2, Closing { shared, alloc }) {
-        Ok(report) => {
-            check_pair(rt, &report);
-            drop(report);
-            true
-        }
-        Err(SystemFault::OutOfMemory) => false,
-        Err(_) => panic!(rt; "the tree was refused"),
-    }
+    let closing = Closing {
+        shared: again(rt, shared),
+        alloc,
+    };
+    with_system(rt, alloc, plans, 2, closing)
 }
 
 // Under `.ci/refused-growths --trees` the first allocations that are refused are those that the test makes for itself, which it
-// then tells. Each of the next is a growth of the opening, of a turn or of the close: the tree is opened again, or nothing is
-// lost, and all comes to the same end.
+// then tells. Each of the next is a growth of the opening, of a turn or of the close: the tree is opened again with the plans that
+// came back, or nothing is lost, and all comes to the same end.
 #[test]
 fn a_tree_is_closed_with_all_its_hands(rt: HostRuntime) {
-    if !close_whole(&rt, rt.alloc()) {
-        assert!(rt; close_whole(&rt, rt.alloc()));
-    }
+    let shared = common(&rt, rt.alloc());
+    let plans = plans_of(&rt, rt.alloc(), Grove::Pair, &shared);
+    let report = match close_whole(&rt, rt.alloc(), plans, &shared) {
+        Ok(report) => report,
+        Err(back) => {
+            let plans = plans_back(&rt, back);
+            got(
+                &rt,
+                "the plans were refused again",
+                close_whole(&rt, rt.alloc(), plans, &shared),
+            )
+        }
+    };
+    check_pair(&rt, &report);
+    drop(report);
+    drop(shared);
 }
 
 // What a supervisor counts that has so many children, of whom so many have a process.
@@ -271,7 +282,8 @@ fn counts_are_read_while_the_tree_restarts(rt: HostRuntime) {
     let plans = plans_of(&rt, rt.alloc(), Grove::Pair, &shared);
     assert!(rt; plans.len() <= 64);
     let counted = with_system(&rt, rt.alloc(), plans, 2, Counting);
-    same(&rt, "that counts were read", counted, Ok(true));
+    let counted = got(&rt, "the tree was not opened", counted);
+    same(&rt, "that counts were read", counted, true);
     same(&rt, "the starts of workers", shared.starts(), STARTS);
     drop(shared);
 }

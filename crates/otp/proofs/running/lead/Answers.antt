@@ -1,4 +1,4 @@
-use Rattle.otp.proofs.Begun.{have_begun_in, none_bare}
+use Rattle.otp.proofs.Begun.{have_begun_in, none_bare, plans_back}
 use Rattle.otp_tree.specs.declared.whole.RunFault.TheVariants as run
 use Rattle.otp.proofs.running.lead.Goals as goal
 
@@ -9,4 +9,8 @@ returns-in-Ok-lead-clause-plans g c =
 pub returns-in-Err-lead-clause-back : goal.returns-in-Err-lead-clause-back
 returns-in-Err-lead-clause-back g c =
     let made = c.in-Ok.ensures {u = tt} in
-    (made.lawful, (tt, (tt, none_bare c.in-Ok.plans.items (run.Open c.in-Err-lead.why) made.bodies (c.in-Err-lead.ensures {u = tt}).fault)))
+    let why = c.in-Err-lead.ensures {u = tt} in
+    let of = (why.fault, why.back) in (
+      made.lawful,
+      (tt, (tt, (none_bare c.in-Ok.plans.items (run.Open c.in-Err-lead.why) made.bodies of, plans_back c.in-Ok.plans.items c.args.root (run.Open c.in-Err-lead.why) made.plans of))),
+    )

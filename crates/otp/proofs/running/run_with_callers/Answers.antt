@@ -1,4 +1,4 @@
-use Rattle.otp.proofs.Begun.{have_begun, none_bare}
+use Rattle.otp.proofs.Begun.{have_begun, none_bare, plans_back}
 use Rattle.otp.proofs.running.run_with_callers.Goals as goal
 
 pub returns-in-Ok-ran-clause-plans : goal.returns-in-Ok-ran-clause-plans
@@ -8,5 +8,7 @@ returns-in-Ok-ran-clause-plans g c =
 pub returns-in-Err-ran-clause-back : goal.returns-in-Err-ran-clause-back
 returns-in-Err-ran-clause-back g c =
     let made = c.in-Ok-plans_for.ensures {u = tt} in
-    let why = c.in-Err-ran.ensures {u = tt} in
-    (made.lawful, (why.mismatch, (why.missing, none_bare c.in-Ok-plans_for.plans.items c.in-Err-ran.why made.bodies why.opened)))
+    let why = c.in-Err-ran.ensures {u = tt} in (
+      made.lawful,
+      (why.mismatch, (why.missing, (none_bare c.in-Ok-plans_for.plans.items c.in-Err-ran.why made.bodies why.opened, plans_back c.in-Ok-plans_for.plans.items c.args.root c.in-Err-ran.why made.plans why.opened))),
+    )

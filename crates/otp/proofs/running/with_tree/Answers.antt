@@ -1,8 +1,12 @@
-use Rattle.otp.proofs.Begun.{none_bare}
+use Rattle.otp.proofs.Begun.{none_bare, plans_back}
 use Rattle.otp_tree.specs.declared.whole.RunFault.TheVariants as run
 use Rattle.otp.proofs.running.with_tree.Goals as goal
 
 pub returns-in-Err-with_system-clause-back : goal.returns-in-Err-with_system-clause-back
 returns-in-Err-with_system-clause-back g c =
     let made = c.in-Ok.ensures {u = tt} in
-    (made.lawful, (tt, (tt, none_bare c.in-Ok.plans.items (run.Open c.in-Err-with_system.why) made.bodies (c.in-Err-with_system.ensures {u = tt}).fault)))
+    let why = c.in-Err-with_system.ensures {u = tt} in
+    let of = (why.fault, why.back) in (
+      made.lawful,
+      (tt, (tt, (none_bare c.in-Ok.plans.items (run.Open c.in-Err-with_system.why) made.bodies of, plans_back c.in-Ok.plans.items c.args.root (run.Open c.in-Err-with_system.why) made.plans of))),
+    )

@@ -87,7 +87,6 @@ returns g c =
     record {
       hands = record { passes = c.args.passes.now.items; many = refl; fresh = c.loop-scheduler.invariant.fresh };
       opened = record { many = omega (arith, none, left, many); each = c.loop-scheduler.invariant.opened };
-      memory = tt;
       split = c.loop-scheduler.invariant.split;
       reach = c.loop-scheduler.invariant.reach;
       len = c.loop-scheduler.invariant.len;

@@ -1,75 +1,62 @@
-use Rattle.std.proofs.Common.{◌≡◌, suc, ◌+◌, Some, length, arith, ap, sym, ◌∙◌, subst, add-zero, length-append}
+use Rattle.std.proofs.Common.{◌≡◌, ◌+◌, ◌<◌, ◌∙◌, Some, suc, add-zero, length, length-append, ap, subst, sym, arith}
 use Rattle.std.specs.Prelude.{slice_get}
-use Rattle.otp_inbox.specs.Tokens.{first_sender}
-use Rattle.otp_bodies.specs.declared.letter.Message.{Message}
 use Rattle.otp_run.specs.Lists.{AllAt}
 use Rattle.otp_run.proofs.Places.{push_at}
 use Rattle.otp_open.specs.Plans.{HasBodies}
-use Rattle.otp_open.proofs.EachOpened.{all_so_far, one_more, unready_fault}
+use Rattle.otp_open.specs.Readies.{AreReadyFor}
+use Rattle.otp_open.proofs.Adds.{of_next, of_others}
+use Rattle.otp_open.proofs.Readies.{ready_next, some_place}
 use Rattle.otp_open.proofs.opening.open_all.Goals as goal
 
-pub open_one-requires-clause-named : goal.open_one-requires-clause-named
-open_one-requires-clause-named g c =
-    let n = c.loop-number.number in
-    let all = c.args.inboxes.items in
-    let e = c.next_of-inbox.ensures.next in
-    let at : slice_get all n ≡ Some c.next_of-inbox.result = ap (slice_get all) (sym (add-zero n)) ∙ sym (c.loop-number.invariant.rest 0) ∙ ap (λ l. slice_get l 0) e in
-    rw at at (c.requires.named n)
+pub next_of-place-requires : goal.next_of-place-requires
+next_of-place-requires g c =
+    let i = c.loop-plan.invariant in
+    let next = (c.in-Some.ensures {u = tt}).steps.0 in
+    let left = i.left_places in
+    let some : 0 < length c.loop-plan.places.rest.items = some_place _ _ _ c.loop-plan.places.rest.items (subst (λ l. AreReadyFor c.loop-plan.number l c.loop-plan.places.rest.items) next i.ready) in
+    omega (arith, left, some)
 
-pub open_one-requires-clause-plan : goal.open_one-requires-clause-plan
-open_one-requires-clause-plan g c =
-    let n = c.loop-number.number in
+pub open_at-requires-clause-ready : goal.open_at-requires-clause-ready
+open_at-requires-clause-ready g c = (ready_next _ _ _ _ _ _ _ (c.in-Some.ensures {u = tt}).steps.0 c.next_of-place.ensures.next c.loop-plan.invariant.ready).0
+
+pub open_at-requires-clause-plan : goal.open_at-requires-clause-plan
+open_at-requires-clause-plan g c =
+    let n = c.loop-plan.number in
     let all = c.args.plans.items in
-    let e = (c.in-Some.ensures {u = tt}).items in
-    let at : slice_get all n ≡ Some c.in-Some.plan = ap (slice_get all) (sym (add-zero n)) ∙ sym (c.loop-number.invariant.plans 0) ∙ ap (λ l. slice_get l 0) e in
+    let at : slice_get all n ≡ Some c.in-Some.plan = ap (slice_get all) (sym (add-zero n)) ∙ sym (c.loop-plan.invariant.plans 0) ∙ ap (λ l. slice_get l 0) (c.in-Some.ensures {u = tt}).steps.0 in
     rw at at (c.requires.plans n)
 
-pub open_one-requires-clause-slots : goal.open_one-requires-clause-slots
-open_one-requires-clause-slots g c =
-    let i = c.loop-number.invariant in
-    let count = i.count in
-    let next = ap length c.next_of-inbox.ensures.next in
-    λ slot low below. i.slots slot low (omega (arith, below, count, next))
+pub open_at-requires-clause-bodies : goal.open_at-requires-clause-bodies
+open_at-requires-clause-bodies g c = of_next HasBodies _ _ _ (c.in-Some.ensures {u = tt}).steps.0 c.loop-plan.invariant.bodies
 
-pub loop-number-preserved : goal.loop-number-preserved
-loop-number-preserved g c =
-    let i = c.loop-number.invariant in
-    let e = c.next_of-inbox.ensures.next in
-    let next = (c.in-Some.ensures {u = tt}).items in
-    let step = ap length e in
+pub open_at-requires-clause-few : goal.open_at-requires-clause-few
+open_at-requires-clause-few g c =
+    let shorter = ap length (c.in-Some.ensures {u = tt}).steps.0 in
+    let count = c.loop-plan.invariant.count in
+    let few = c.requires.few in
+    omega (arith, shorter, count, few)
+
+pub loop-plan-preserved : goal.loop-plan-preserved
+loop-plan-preserved g c =
+    let i = c.loop-plan.invariant in
+    let next = (c.in-Some.ensures {u = tt}).steps.0 in
+    let fewer = (c.in-Some.ensures {u = tt}).steps.1 in
+    let shorter = ap length next in
+    let before = i.left in
+    let places = c.next_of-place.ensures.next in
+    let fewer_places = c.next_of-place.ensures.len in
+    let shorter_places = ap length places in
+    let before_places = i.left_places in
     let count = i.count in
-    let left = i.left in
-    let fewer = c.next_of-inbox.ensures.len in
-    let all = c.args.plans.items in
-    let at : slice_get all c.loop-number.number ≡ Some c.in-Some.plan = ap (slice_get all) (sym (add-zero c.loop-number.number)) ∙ sym (i.plans 0) ∙ ap (λ l. slice_get l 0) next in
-    let one = c.in-Ok.ensures {u = tt} in
-    let kept = c.in-Ok-keep.ensures {u = tt} in
+    let room = i.room in
     record {
-      rest = λ k. ap (λ l. slice_get l (suc k)) (sym e) ∙ i.rest (suc k) ∙ ap (slice_get c.args.inboxes.items) (omega arith);
-      count = omega arith;
-      plans = λ k. ap (λ l. slice_get l (suc k)) (sym next) ∙ i.plans (suc k) ∙ ap (slice_get c.args.plans.items) (omega arith);
-      ready = one_more HasBodies c.args.plans.items c.loop-number.number c.in-Some.plan i.ready at one.bodies;
       left = omega arith;
-      many = ap length kept.senders ∙ length-append _ _ ∙ ap (λ m. m + 1) i.many;
-      many_passes = ap length kept.passes ∙ length-append _ _ ∙ ap (λ m. m + 1) i.many_passes;
-      many_sups = ap length kept.sups ∙ length-append _ _ ∙ ap (λ m. m + 1) i.many_sups;
-      placed = subst (AllAt (λ k sup. sup.inbox ≡ k)) (sym kept.sups) (push_at (λ k sup. sup.inbox ≡ k) _ _ i.placed (one.sup ∙ sym i.many_sups));
-      seated = subst (AllAt (λ k s. s ≡ first_sender {P = Message} k)) (sym kept.senders) (push_at (λ k s. s ≡ first_sender k) _ _ i.seated (one.sender ∙ ap first_sender (sym i.many)));
-      root = one.lower 0 (omega arith) i.root;
-      slots = λ slot le below. one.upper slot le (i.slots slot (omega (arith, le)) below);
-      unposted = one.posts;
+      left_places = omega arith;
+      plans = λ k. ap (λ l. slice_get l (suc k)) (sym next) ∙ i.plans (suc k) ∙ ap (slice_get c.args.plans.items) (omega arith);
+      count = omega arith;
+      many = ap length c.push_reserved.ensures.items ∙ length-append _ _ ∙ ap (λ m. m + 1) i.many;
+      room = omega (arith, room, shorter, c.push_reserved.ensures);
+      bodies = of_others HasBodies _ _ _ next i.bodies;
+      ready = (ready_next _ _ _ _ _ _ _ next places i.ready).1;
+      placed = subst (AllAt (λ k sup. sup.inbox ≡ k)) (sym c.push_reserved.ensures.items) (push_at (λ k sup. sup.inbox ≡ k) _ _ i.placed (c.open_at.ensures ∙ sym i.many));
     }
-
-pub returns-clause-bodies : goal.returns-clause-bodies
-returns-clause-bodies g c =
-    let test = c.loop-number-test.false in
-    let size = c.len-count.ensures in
-    all_so_far HasBodies c.args.plans.items (length c.args.inboxes.items) (λ k less. c.loop-number.invariant.ready k (omega (arith, less, test, size))) c.requires.as_many
-
-pub returns-in-Err-clause-fault : goal.returns-in-Err-clause-fault
-returns-in-Err-clause-fault g c =
-    let n = c.loop-number.number in
-    let all = c.args.plans.items in
-    let e = (c.in-Some.ensures {u = tt}).items in
-    let at : slice_get all n ≡ Some c.in-Some.plan = ap (slice_get all) (sym (add-zero n)) ∙ sym (c.loop-number.invariant.plans 0) ∙ ap (λ l. slice_get l 0) e in
-    unready_fault all n c.in-Some.plan c.in-Err.fault at (c.in-Err.ensures {u = tt}).fault

@@ -3,7 +3,7 @@ use Rattle.std.specs.Prelude.{◌++◌, ◌∷◌, []}
 use Rattle.otp_inbox.specs.Names as inboxes
 use Rattle.otp_open.specs.Plans.{plans_of}
 use Rattle.otp_run.specs.Names as deques
-use Rattle.otp_tree.proofs.session.with_growing_system.Given as goal
+use Rattle.otp_tree.proofs.session.run_padded.Given as goal
 
 abbrev pub ghosts-run_growing-N-WordsNaming : goal.ghosts-run_growing-N-WordsNaming
 ghosts-run_growing-N-WordsNaming g a = record { words = a.parts.words.words }
