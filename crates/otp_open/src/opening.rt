@@ -76,7 +76,7 @@ impl<N: SupNaming, J: Drop, S: Drop> Site<N, J, S> {
         sups: Vec<Sup<N, Body<J, S>>>,
     ) -> Shared<N, J, S>
         requires ready { AreReadyFor 0 plans.items self.places.items }
-        requires outer { self.outer ≡ length self.places.items }
+        requires outer { self.outer ≡ length plans.items }
         requires plans { ArePlanned N.plan plans.items }
         requires bodies { HaveBodies plans.items }
         requires few { length plans.items ≤ MAX_TABLES }

@@ -129,7 +129,7 @@ impl<J: Drop, S: Drop> Bare<J, S> {
         requires slots { self.words.slots ≡ slots_of (length self.inboxes.items) }
         requires few { length self.inboxes.items ≤ MAX_TABLES }
         ensures places { IfOk result (λ r. AreReadyFor 0 plans.now r.site.places.items) }
-        ensures outer { IfOk result (λ r. r.site.outer ≡ length r.site.places.items) }
+        ensures outer { IfOk result (λ r. r.site.outer ≡ length plans.now) }
         ensures none { IfOk result (λ r. r.sups.items ≡ []) }
         ensures room { IfOk result (λ r. length plans.now ≤ vec_capacity r.sups) }
         ensures first { IfOk result (λ r. is_some r.client.waiter ≡ true) }

@@ -37,8 +37,8 @@ pub returns-clause-outer : goal.returns-clause-outer
 returns-clause-outer g c =
     let count = c.len-tables.ensures in
     let ok = c.args.self.inboxes.ok.0 in
-    let many = (c.in_ok-places.ensures {u = tt}).many in
-    let same : c.len-tables.result ≡ length c.in_ok-places.places.items = omega (arith, count, ok, many) in
+    let many = c.requires.as_many in
+    let same : c.len-tables.result ≡ length c.args.plans.now = omega (arith, count, ok, many) in
     c.named-outer.ensures.inbox ∙ same
 
 pub returns-clause-own : goal.returns-clause-own
