@@ -24,8 +24,7 @@ pub fn check_file<'a, W: Output>(
     output: &mut W,
 ) -> ProgramEnd<'a>
     ensures { IsChecked checking.has_starts result file.now
-        (W.seen output.old)
-        (W.seen output.new) }
+        (W.seen output.old) (W.seen output.new) }
 {
     let Ok(findings) = check(alloc, file) else {
         return ProgramEnd::OutOfMemory;
@@ -47,8 +46,7 @@ fn check_starts<'a, W: Output>(
 ) -> ProgramEnd<'a>
     requires starts { checking.has_starts ≡ true }
     ensures { IsChecked checking.has_starts result file.now
-        (W.seen output.old)
-        (W.seen output.new) }
+        (W.seen output.old) (W.seen output.new) }
 {
     let Ok(findings) = find_unfit(alloc, file) else {
         return ProgramEnd::OutOfMemory;

@@ -17,8 +17,7 @@ pub fn console<'a, R: Input, W: Output>(
     input: &mut R,
     output: &mut W,
 ) -> ProgramEnd<'a>
-    ensures { IsRun result file.now
-        (devices (R.seen input.old) (W.seen output.old))
+    ensures { IsRun result file.now (devices (R.seen input.old) (W.seen output.old))
         (devices (R.seen input.new) (W.seen output.new)) }
 {
     let tree = match read_tree(alloc, file) {

@@ -45,8 +45,7 @@ where
     E: Output,
     ensures { IsProgramRun (F.known files.now) result
         (devices (R.seen input.old) (W.seen output.old))
-        (devices (R.seen input.new) (W.seen output.new))
-        (E.seen errors.old) (E.seen errors.new) }
+        (devices (R.seen input.new) (W.seen output.new)) (E.seen errors.old) (E.seen errors.new) }
 {
     let ending = obey(pool, &words, files, input, output, errors);
     tell(errors, ending, files.unwritten())
@@ -71,8 +70,7 @@ where
     E: Output,
     ensures obeyed { IsObeyed (F.known files.now) result
         (devices (R.seen input.old) (W.seen output.old))
-        (devices (R.seen input.new) (W.seen output.new))
-        (E.seen errors.old) (E.seen errors.new) }
+        (devices (R.seen input.new) (W.seen output.new)) (E.seen errors.old) (E.seen errors.new) }
     ensures kept { (E.seen errors.old).failures ≤ (E.seen errors.new).failures }
 {
     let words = match words {
@@ -180,9 +178,8 @@ where
     F: TreeFiles,
     W: Output,
     E: Output,
-    ensures done { RunsTree ((F.known files.now).holds name.now) how.shows.is_json name.now how.settings.counted result
-        (W.seen output.old)
-        (W.seen output.new) }
+    ensures done { RunsTree ((F.known files.now).holds name.now) how.shows.is_json name.now
+        how.settings.counted result (W.seen output.old) (W.seen output.new) }
     ensures first { TellsFirst (how.shows.is_drawn || how.shows.is_why) result (E.seen errors.old) (E.seen errors.new) }
     ensures kept { (E.seen errors.old).failures ≤ (E.seen errors.new).failures }
 {
@@ -208,8 +205,7 @@ where
     W: Output,
     E: Output,
     ensures done { ServesTree ((F.known files.now).holds name.now) how.shows.is_json name.now result
-        (W.seen output.old)
-        (W.seen output.new) }
+        (W.seen output.old) (W.seen output.new) }
     ensures first { TellsFirst (how.shows.is_drawn || how.shows.is_why) result (E.seen errors.old) (E.seen errors.new) }
     ensures kept { (E.seen errors.old).failures ≤ (E.seen errors.new).failures }
 {
@@ -227,9 +223,8 @@ fn check_all<'a, F: TreeFiles, W: Output>(
     checking: Checking,
     output: &mut W,
 ) -> ProgramEnd<'a>
-    ensures { ChecksAll checking.has_starts (λ name. (F.known files.now).holds name.now) names.now result
-        (W.seen output.old)
-        (W.seen output.new) }
+    ensures { ChecksAll checking.has_starts (λ name. (F.known files.now).holds name.now)
+        names.now result (W.seen output.old) (W.seen output.new) }
 {
     let mut ending = ProgramEnd::Done;
     for name in names {
@@ -251,8 +246,7 @@ fn check_named<'a, F: TreeFiles, W: Output>(
     output: &mut W,
 ) -> ProgramEnd<'a>
     ensures { Checks checking.has_starts ((F.known files.now).holds name.now) result
-        (W.seen output.old)
-        (W.seen output.new) }
+        (W.seen output.old) (W.seen output.new) }
 {
     match read_small(files, name) {
         Ok(file) => check_file(alloc, name, &file, checking, output),
@@ -270,8 +264,7 @@ fn answer<'a, W: Output, E: Output>(
 ) -> ProgramEnd<'a>
     ensures ending { EndsFor fault.now result }
     ensures done { (unread : Readable) → Answers result
-        (devices unread (W.seen output.old))
-        (devices unread (W.seen output.new)) }
+        (devices unread (W.seen output.old)) (devices unread (W.seen output.new)) }
     ensures first { TellsFirst false result (E.seen errors.old) (E.seen errors.new) }
     ensures kept { (E.seen errors.old).failures ≤ (E.seen errors.new).failures }
 {
@@ -293,8 +286,7 @@ fn answer<'a, W: Output, E: Output>(
 fn show_text<'a, W: Output>(text: &str, output: &mut W) -> ProgramEnd<'a>
     ensures ending { (result ≡ end.Done) ⊎ (result ≡ end.OutputFailed) }
     ensures done { (unread : Readable) → Answers result
-        (devices unread (W.seen output.old))
-        (devices unread (W.seen output.new)) }
+        (devices unread (W.seen output.old)) (devices unread (W.seen output.new)) }
 {
     match write_all(output, text.as_bytes()) {
         Ok(()) => ProgramEnd::Done,
@@ -311,8 +303,7 @@ fn show<'a, W: Output, E: Output>(
 ) -> ProgramEnd<'a>
     ensures ending { EndsFor (Clap error.now) result }
     ensures done { (unread : Readable) → Answers result
-        (devices unread (W.seen output.old))
-        (devices unread (W.seen output.new)) }
+        (devices unread (W.seen output.old)) (devices unread (W.seen output.new)) }
     ensures first { TellsFirst false result (E.seen errors.old) (E.seen errors.new) }
     ensures kept { (E.seen errors.old).failures ≤ (E.seen errors.new).failures }
 {

@@ -119,8 +119,7 @@ fn limit_seen<'a, F: TreeFiles, W: Output>(
     output: &mut W,
 ) -> ProgramEnd<'a>
     ensures { IsLimited false grain pick.entry name.now result file.now
-        (W.seen output.old)
-        (W.seen output.new) }
+        (W.seen output.old) (W.seen output.new) }
 {
     let seen = Seen { files };
     let asking = Asking {
@@ -181,9 +180,7 @@ fn tell_whole<'a, F: TreeFiles, W: Output, E: Output>(
     errors: &mut E,
 ) -> ProgramEnd<'a>
     ensures done { IsRead (λ ending. IsRunTold name.now ending file.now)
-        result
-        (W.seen output.old)
-        (W.seen output.new) }
+        result (W.seen output.old) (W.seen output.new) }
     ensures first { TellsFirst false result (E.seen errors.old) (E.seen errors.new) }
     ensures kept { (E.seen errors.old).failures ≤ (E.seen errors.new).failures }
 {
@@ -288,8 +285,7 @@ fn try_lines<'a, W: Output>(
     output: &mut W,
 ) -> ProgramEnd<'a>
     ensures { (unread : Readable) → IsTrial name.now result file.now
-        (devices unread (W.seen output.old))
-        (devices unread (W.seen output.new)) }
+        (devices unread (W.seen output.old)) (devices unread (W.seen output.new)) }
 {
     let mut script = Counted::new(lines);
     try_file(alloc, name, file, playing, &mut script, output)
@@ -305,9 +301,8 @@ fn compare_with<'a, F: TreeFiles, W: Output, E: Output>(
     output: &mut W,
     errors: &mut E,
 ) -> ProgramEnd<'a>
-    ensures done { IsComparedWith ((F.known files.now).holds other.now) name.now other.now result file.now
-        (W.seen output.old)
-        (W.seen output.new) }
+    ensures done { IsComparedWith ((F.known files.now).holds other.now) name.now other.now
+        result file.now (W.seen output.old) (W.seen output.new) }
     ensures first { TellsFirst false result (E.seen errors.old) (E.seen errors.new) }
     ensures kept { (E.seen errors.old).failures ≤ (E.seen errors.new).failures }
 {
@@ -329,9 +324,8 @@ fn replay_log<'a, F: TreeFiles, W: Output, E: Output>(
     output: &mut W,
     errors: &mut E,
 ) -> ProgramEnd<'a>
-    ensures done { IsReplayOf ((F.known files.now).holds log.now) log.entry is_listed name.now result file.now
-        (W.seen output.old)
-        (W.seen output.new) }
+    ensures done { IsReplayOf ((F.known files.now).holds log.now) log.entry is_listed name.now
+        result file.now (W.seen output.old) (W.seen output.new) }
     ensures first { TellsFirst false result (E.seen errors.old) (E.seen errors.new) }
     ensures kept { (E.seen errors.old).failures ≤ (E.seen errors.new).failures }
 {

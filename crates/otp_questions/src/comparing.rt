@@ -19,8 +19,7 @@ pub fn compare_files<'a, W: Output>(
     output: &mut W,
 ) -> ProgramEnd<'a>
     ensures { IsCompared name.now other.now result file.now other_file.now
-        (W.seen output.old)
-        (W.seen output.new) }
+        (W.seen output.old) (W.seen output.new) }
 {
     let tree = match read_tree(alloc, file) {
         Ok(tree) => tree,

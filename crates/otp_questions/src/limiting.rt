@@ -54,9 +54,8 @@ pub fn limit_file<'a, P: Progress, W: Output>(
     progress: &P,
     output: &mut W,
 ) -> ProgramEnd<'a>
-    ensures { IsLimited asking.entry.is_json asking.entry.grain asking.entry.pick name.now result file.now
-        (W.seen output.old)
-        (W.seen output.new) }
+    ensures { IsLimited asking.entry.is_json asking.entry.grain asking.entry.pick name.now
+        result file.now (W.seen output.old) (W.seen output.new) }
 {
     let Asking {
         pick,

@@ -46,9 +46,7 @@ pub fn tell_run<'a, W: Output>(
     clock: Clock,
     output: &mut W,
 ) -> ProgramEnd<'a>
-    ensures { IsRunTold name.now result file.now
-        (W.seen output.old)
-        (W.seen output.new) }
+    ensures { IsRunTold name.now result file.now (W.seen output.old) (W.seen output.new) }
 {
     let account = match run_of(alloc, name, file, script, clock) {
         Ok(account) => account,

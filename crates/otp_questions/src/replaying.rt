@@ -25,9 +25,8 @@ pub fn replay_file<'a, W: Output>(
     replaying: Replaying,
     output: &mut W,
 ) -> ProgramEnd<'a>
-    ensures { IsReplay log.entry.name log.entry.text.now replaying.is_listed name.now result file.now
-        (W.seen output.old)
-        (W.seen output.new) }
+    ensures { IsReplay log.entry.name log.entry.text.now replaying.is_listed name.now
+        result file.now (W.seen output.old) (W.seen output.new) }
 {
     let tree = match read_tree(alloc, file) {
         Ok(tree) => tree,

@@ -15,9 +15,7 @@ pub fn stop_file<'a, W: Output>(
     file: &[u8],
     output: &mut W,
 ) -> ProgramEnd<'a>
-    ensures { IsStopped name.now result file.now
-        (W.seen output.old)
-        (W.seen output.new) }
+    ensures { IsStopped name.now result file.now (W.seen output.old) (W.seen output.new) }
 {
     let tree = match read_tree(alloc, file) {
         Ok(tree) => tree,

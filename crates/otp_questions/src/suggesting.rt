@@ -19,8 +19,7 @@ pub fn suggest_file<'a, W: Output>(
     output: &mut W,
 ) -> ProgramEnd<'a>
     ensures { IsSuggested child.entry every.entry name.now result file.now
-        (W.seen output.old)
-        (W.seen output.new) }
+        (W.seen output.old) (W.seen output.new) }
 {
     let gap = match read_gap(every) {
         Ok(gap) => gap,

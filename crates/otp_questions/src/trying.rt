@@ -19,8 +19,7 @@ pub fn try_file<'a, R: Input, W: Output>(
     script: &mut R,
     output: &mut W,
 ) -> ProgramEnd<'a>
-    ensures { IsTrial name.now result file.now
-        (devices (R.seen script.old) (W.seen output.old))
+    ensures { IsTrial name.now result file.now (devices (R.seen script.old) (W.seen output.old))
         (devices (R.seen script.new) (W.seen output.new)) }
 {
     let tree = match read_tree(alloc, file) {

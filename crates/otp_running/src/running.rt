@@ -69,8 +69,7 @@ where
     W: Output,
     E: Output,
     ensures done { IsTreeRun how.shows.is_json name.now how.settings.counted result file.now
-        (W.seen output.old)
-        (W.seen output.new) }
+        (W.seen output.old) (W.seen output.new) }
     ensures first { TellsFirst (how.shows.is_drawn || how.shows.is_why) result (E.seen errors.old) (E.seen errors.new) }
     ensures kept { (E.seen errors.old).failures ≤ (E.seen errors.new).failures }
 {

@@ -19,7 +19,7 @@ use otp_core::{Core, Counter, ReplyAnswer};
 use otp_reason::Note;
 use otp_rules::{Effect, Item, Kind, Reply};
 use otp_spec::SupSpec;
-use otp_text::{Line, Printer, Verb, cut_verb, read_line_with, read_note_with};
+use otp_text::{Line, Printer, Verb, cut_verb, read_line_with, read_note_with, read_without_verb};
 use std::alloc::{AllocError, Global};
 use std::marker::Model;
 
@@ -230,7 +230,7 @@ impl Player {
     /// # Errors
     ///
     /// Where memory is refused. Then part of the text may have been appended, and the player is not used again.
-    #[tactic(auto, unfolding(crate::specs::Sim::begin_line, crate::specs::Sim::begin_form, crate::specs::Sim::take_read, otp_text::specs::Lines::line_without_verb))]
+    #[tactic(auto, unfolding(crate::specs::Sim::begin_line))]
     pub(crate) fn play_line(&mut self, line: &[u8], out: &mut Vec<u8>) -> Result<(), AllocError>
         requires { self.old.lines + 1 < LINE_LIMIT }
         ensures ok { OnOk result (with_text out.new.items self.new ≡ begin_line line.now (with_text out.old.items self.old)) }
@@ -243,11 +243,7 @@ impl Player {
         self.lines += 1;
         match cut_verb(line) {
             Some((verb, rest)) => self.play_verb(verb, rest, out),
-            None if line.is_empty() => Ok(()),
-            None => {
-                self.end = Some(Stop::LineRefused(self.lines));
-                Ok(())
-            }
+            None => self.begin_form(read_without_verb(line), out),
         }
     }
 

@@ -26,8 +26,7 @@ pub(crate) fn read_next<R: Input, W: Output>(
 ) -> Result<usize, SimEnd>
     requires room { PIECE ≤ length buffer.old }
     ensures bound { ReadsAtMost result buffer.new }
-    ensures next { ReadsNext result
-        (devices (R.seen input.old) (W.seen output.old))
+    ensures next { ReadsNext result (devices (R.seen input.old) (W.seen output.old))
         (devices (R.seen input.new) (W.seen output.new))
         ready.old.items ready.new.items buffer.new }
 {

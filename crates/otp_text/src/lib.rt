@@ -13,7 +13,9 @@ mod verb;
 mod word;
 
 pub use effect::Printer;
-pub use line::{LONGEST_LINE, Line, cut_verb, read_line, read_line_with, read_note_with};
+pub use line::{
+    LONGEST_LINE, Line, cut_verb, read_line, read_line_with, read_note_with, read_without_verb,
+};
 pub use value::{write_child_name, write_name, write_number, write_process, write_reason};
 pub use verb::Verb;
 pub use word::{read_name, read_number, read_reason};

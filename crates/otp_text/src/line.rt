@@ -47,7 +47,8 @@ pub fn read_line(line: &[u8]) -> Option<Line>
 /// A line's verb, and what stands after it. There is no verb where the line is empty, has more than 512 bytes, or begins with
 /// another word.
 ///
-/// What the line says is then read by [`read_line_with`], or by [`read_note_with`] where it may be a note.
+/// What the line says is then read by [`read_line_with`], or by [`read_note_with`] where it may be a note. Where there is no
+/// verb, [`read_without_verb`] reads it.
 #[tactic(auto, unfolding(crate::specs::Lines::line_of, crate::specs::Lines::line_without_verb))]
 pub fn cut_verb(line: &[u8]) -> Option<(Verb, Option<&[u8]>)>
     ensures verb { IfSome result (λ found. line_of line.now ≡ line_with found.0 (words_left (option_copied found.1))) }
@@ -70,9 +71,9 @@ fn cut_words(line: &[u8]) -> Option<(Verb, Option<&[u8]>)>
     Some((verb, rest))
 }
 
-/// What a line says that has no verb: nothing where it is empty.
+/// What a line says that has no verb, as [`cut_verb`] found: nothing where it is empty; `None` for any other form.
 #[tactic(auto, unfolding(crate::specs::Lines::line_without_verb))]
-fn read_without_verb(line: &[u8]) -> Option<Line>
+pub fn read_without_verb(line: &[u8]) -> Option<Line>
     ensures line { result ≡ line_without_verb line.now }
     ensures time { IfSome result IsTimely }
 {
