@@ -38,7 +38,9 @@ loop-number-preserved g c =
     let one = c.in-Ok.ensures {u = tt} in
     let kept = c.in-Ok-keep.ensures {u = tt} in
     let more = take_more plans n p (omega (arith, c.loop-number-test.true)) ∙ ap (λ x. take n plans ++ x ∷ []) (sym c.index-plans-number.is) in
-    let at : IsReadyFor (length c.loop-number.all.places.items) p c.in-Ok.one.place = subst (λ m. IsReadyFor m p c.in-Ok.one.place) (sym i.many_places) one.ready in
+    let many = i.many_places in
+    let same : n ≡ 0 + length c.loop-number.all.places.items = omega (arith, many) in
+    let at : IsReadyFor (0 + length c.loop-number.all.places.items) p c.in-Ok.one.place = subst (λ m. IsReadyFor m p c.in-Ok.one.place) same one.ready in
     record {
       rest = λ k. ap (λ l. slice_get l (suc k)) (sym e) ∙ i.rest (suc k) ∙ ap (slice_get c.args.inboxes.items) (omega arith);
       count = omega arith;
