@@ -5,7 +5,7 @@ use Rattle.otp_close.specs.Partings.{schedulers_of}
 use Rattle.otp_tree.proofs.opening.Parts.named.Goals as goal
 
 pub returns-clause-tables : goal.returns-clause-tables
-returns-clause-tables g c = c.open.ensures ∙ c.requires.as_many
+returns-clause-tables g c = c.open.ensures.tables ∙ c.requires.as_many
 
 pub returns-clause-complete : goal.returns-clause-complete
 returns-clause-complete g c = λ some.
