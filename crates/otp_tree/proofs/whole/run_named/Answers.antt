@@ -1,4 +1,4 @@
-use Rattle.std.proofs.Common.{◌≡◌, ◌∙◌, subst, sym}
+use Rattle.std.proofs.Common.{◌∙◌, subst, sym}
 use Rattle.otp_close.proofs.Standings.{complete_kept}
 use Rattle.otp_close.specs.Closes.{IsReportOf}
 use Rattle.otp_open.proofs.SparePlaces.{all_planned, each_planned}

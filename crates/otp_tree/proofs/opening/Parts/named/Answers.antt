@@ -1,7 +1,5 @@
-use Rattle.std.proofs.Common.{◌≡◌, ◌∙◌, length, sym, subst}
-use Rattle.otp_run.specs.Gathers.{IsAll}
+use Rattle.std.proofs.Common.{◌∙◌, sym, subst}
 use Rattle.otp_close.specs.Closes.{IsReached, all_senders}
-use Rattle.otp_close.specs.Partings.{schedulers_of}
 use Rattle.otp_tree.proofs.opening.Parts.named.Goals as goal
 
 pub returns-clause-tables : goal.returns-clause-tables

@@ -1,4 +1,4 @@
-use Rattle.std.proofs.Common.{subst, sym, ap}
+use Rattle.std.proofs.Common.{subst, sym}
 use Rattle.std.specs.Prelude.{◌<◌, length}
 use Rattle.otp_close.specs.Closes.{IsReached, all_senders}
 use Rattle.otp_close.specs.Partings.{schedulers_of}
