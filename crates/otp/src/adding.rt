@@ -1,5 +1,5 @@
 //! A tree that was drawn up is added to one that runs.
-ghost use Rattle.std.specs.Prelude.{None, OnOk};
+ghost use Rattle.std.specs.Prelude.{◌≡◌, None, OnOk};
 ghost use Rattle.otp_draft.specs.Faults.{finish_fault};
 
 use crate::running::plans;

@@ -1,4 +1,5 @@
 use Rattle.otp.proofs.Begun.{none_bare, plans_back}
+use Rattle.otp_tree.specs.Closes.{IsRunOpenFault}
 use Rattle.otp_tree.specs.declared.whole.RunFault.TheVariants as run
 use Rattle.otp.proofs.running.with_tree.Goals as goal
 
@@ -6,7 +7,7 @@ pub returns-in-Err-with_system-clause-back : goal.returns-in-Err-with_system-cla
 returns-in-Err-with_system-clause-back g c =
     let made = c.in-Ok.ensures {u = tt} in
     let why = c.in-Err-with_system.ensures {u = tt} in
-    let of = (why.fault, why.back) in (
+    let of : IsRunOpenFault c.in-Ok.plans.items (run.Open c.in-Err-with_system.why) = (why.fault, why.back) in (
       made.lawful,
       (tt, (tt, (none_bare c.in-Ok.plans.items (run.Open c.in-Err-with_system.why) made.bodies of, plans_back c.in-Ok.plans.items c.args.root (run.Open c.in-Err-with_system.why) made.plans of))),
     )
