@@ -1,4 +1,5 @@
 //! Trees to which supervisors are added while they run.
+ghost use Rattle.std.specs.Prelude.{◌≡◌, is_some, true};
 
 use crate::fixtures::{MEMORY, got, same};
 use crate::gates::Still;
@@ -142,7 +143,10 @@ impl<R: Wait + Abort> Session<R, Worker, BoxedSubsystem> for Starting {
         system: System<N, Worker, BoxedSubsystem>,
         hands: Vec<Hand<N, Worker, BoxedSubsystem>>,
         client: Client<N, Body<Worker, BoxedSubsystem>>,
-    ) -> Closed {
+    ) -> Closed
+        // It is the client that may stop the root.
+        requires root { is_some client.waiter ≡ true }
+    {
         let (mut hands, mut client) = (hands, client);
         let Starting { shared, alloc } = self;
         let plans = pair(rt, alloc, &shared);
@@ -205,7 +209,10 @@ impl<R: Wait + Abort> Session<R, Worker, BoxedSubsystem> for Filling {
         system: System<N, Worker, BoxedSubsystem>,
         hands: Vec<Hand<N, Worker, BoxedSubsystem>>,
         client: Client<N, Body<Worker, BoxedSubsystem>>,
-    ) -> Closed {
+    ) -> Closed
+        // It is the client that may stop the root.
+        requires root { is_some client.waiter ≡ true }
+    {
         let Filling { shared, alloc } = self;
         same(
             rt,
@@ -366,7 +373,10 @@ impl<R: Threads + Wait + Abort + Sync> Session<R, Worker, BoxedSubsystem> for Sh
         system: System<N, Worker, BoxedSubsystem>,
         hands: Vec<Hand<N, Worker, BoxedSubsystem>>,
         client: Client<N, Body<Worker, BoxedSubsystem>>,
-    ) -> Closed {
+    ) -> Closed
+        // It is the client that may stop the root.
+        requires root { is_some client.waiter ≡ true }
+    {
         let Sharing { one, other, alloc } = self;
         add_from_threads(rt, alloc, &system, one, other);
         got(
