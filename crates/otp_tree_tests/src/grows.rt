@@ -1,5 +1,4 @@
 //! Trees to which supervisors are added while they run.
-ghost use Rattle.std.specs.Prelude.{◌≡◌, is_some, true};
 
 use crate::fixtures::{MEMORY, got, same};
 use crate::gates::Still;
@@ -143,10 +142,7 @@ impl<R: Wait + Abort> Session<R, Worker, BoxedSubsystem> for Starting {
         system: System<N, Worker, BoxedSubsystem>,
         hands: Vec<Hand<N, Worker, BoxedSubsystem>>,
         client: Client<N, Body<Worker, BoxedSubsystem>>,
-    ) -> Closed
-        // It is the client that may stop the root.
-        requires root { is_some client.waiter ≡ true }
-    {
+    ) -> Closed {
         let (mut hands, mut client) = (hands, client);
         let Starting { shared, alloc } = self;
         let plans = pair(rt, alloc, &shared);
@@ -209,10 +205,7 @@ impl<R: Wait + Abort> Session<R, Worker, BoxedSubsystem> for Filling {
         system: System<N, Worker, BoxedSubsystem>,
         hands: Vec<Hand<N, Worker, BoxedSubsystem>>,
         client: Client<N, Body<Worker, BoxedSubsystem>>,
-    ) -> Closed
-        // It is the client that may stop the root.
-        requires root { is_some client.waiter ≡ true }
-    {
+    ) -> Closed {
         let Filling { shared, alloc } = self;
         same(
             rt,
@@ -373,10 +366,7 @@ impl<R: Threads + Wait + Abort + Sync> Session<R, Worker, BoxedSubsystem> for Sh
         system: System<N, Worker, BoxedSubsystem>,
         hands: Vec<Hand<N, Worker, BoxedSubsystem>>,
         client: Client<N, Body<Worker, BoxedSubsystem>>,
-    ) -> Closed
-        // It is the client that may stop the root.
-        requires root { is_some client.waiter ≡ true }
-    {
+    ) -> Closed {
         let Sharing { one, other, alloc } = self;
         add_from_threads(rt, alloc, &system, one, other);
         got(

@@ -1,5 +1,4 @@
 //! Trees whose opening may be refused memory: the plans come back as they were, and are opened again.
-ghost use Rattle.std.specs.Prelude.{◌≡◌, is_some, true};
 
 use crate::fixtures::{got, same};
 use crate::gates::{Clock, Wait as Before};
@@ -52,10 +51,7 @@ impl<R> Session<R, Worker, BoxedSubsystem> for Leaving {
         system: System<N, Worker, BoxedSubsystem>,
         hands: Vec<Hand<N, Worker, BoxedSubsystem>>,
         client: Client<N, Load>,
-    ) -> usize
-        // It is the client that may stop the root.
-        requires root { is_some client.waiter ≡ true }
-    {
+    ) -> usize {
         let tables = system.tables();
         drop(hands);
         drop(client);

@@ -1,5 +1,4 @@
 //! Trees whose hands one thread serves, in a session: opened, counted, closed without one of the hands and then with all.
-ghost use Rattle.std.specs.Prelude.{◌≡◌, is_some, true};
 
 use crate::fixtures::{MEMORY, got, same};
 use crate::gates::Still;
@@ -80,10 +79,7 @@ impl<R: Wait + Abort> Session<R, Worker, BoxedSubsystem> for Closing {
         system: System<N, Worker, BoxedSubsystem>,
         hands: Vec<Hand<N, Worker, BoxedSubsystem>>,
         client: Client<N, Body<Worker, BoxedSubsystem>>,
-    ) -> Closed
-        // It is the client that may stop the root.
-        requires root { is_some client.waiter ≡ true }
-    {
+    ) -> Closed {
         let (mut hands, mut client) = (hands, client);
         let Closing { shared, alloc } = self;
         lives_alone(rt, &system, &mut hands, &mut client, &shared);
@@ -266,10 +262,7 @@ impl<R: Wait + Abort> Session<R, Worker, BoxedSubsystem> for Counting {
         system: System<N, Worker, BoxedSubsystem>,
         hands: Vec<Hand<N, Worker, BoxedSubsystem>>,
         client: Client<N, Body<Worker, BoxedSubsystem>>,
-    ) -> bool
-        // It is the client that may stop the root.
-        requires root { is_some client.waiter ≡ true }
-    {
+    ) -> bool {
         let mut hands = hands;
         let mut reading = last_of(rt, &mut hands);
         let mut serving = last_of(rt, &mut hands);

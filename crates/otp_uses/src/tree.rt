@@ -1,5 +1,5 @@
 //! A tree of jobs of one's own: opened, served by two hands in turn, called, asked to stop, and ended.
-ghost use Rattle.std.specs.Prelude.{◌≡◌, is_some, true};
+ghost use Rattle.std.specs.Prelude.{true};
 
 use otp::{
     Body, BoxedSubsystem, Call, Client, CountsNow, Fault, Hand, Job, Millis, Note, Reason, Reply,
@@ -65,10 +65,7 @@ impl<R: Wait> Session<R, Steady, BoxedSubsystem> for UpAndDown {
         system: System<N, Steady, BoxedSubsystem>,
         hands: Vec<Hand<N, Steady, BoxedSubsystem>>,
         client: Client<N, Body<Steady, BoxedSubsystem>>,
-    ) -> Self::Output
-        // It is the client that may stop the root.
-        requires root { is_some client.waiter ≡ true }
-    {
+    ) -> Self::Output {
         let (mut hands, mut client) = (hands, client);
         let up = next_note(rt, &system, &mut hands, &mut client);
         let counts = count_children(rt, self.alloc, &system, &mut hands, &mut client);
