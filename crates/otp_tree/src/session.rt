@@ -1,11 +1,9 @@
 //! A tree for one call: the name is picked here, so that no caller has to.
-ghost use Rattle.std.specs.Prelude.{◌≡◌, ◌<◌, ◌≤◌, ℕ, None, length, IfErr, OnOk, is_some, true};
+ghost use Rattle.std.specs.Prelude.{◌≡◌, ◌<◌, ◌≤◌, ℕ, None, length, IfErr, OnOk};
 ghost use Rattle.otp_spec.specs.declared.limits.TheConstants.{MAX_TABLES};
 ghost use Rattle.otp_run.specs.Lists.{AllAt};
 ghost use Rattle.otp_run.specs.Rule.{all_parts};
-ghost use Rattle.otp_close.specs.Closes.{IsComplete};
 ghost use Rattle.otp_open.specs.Opens.{slots_of};
-ghost use Rattle.otp_open.specs.Passes.{CanRead};
 ghost use Rattle.otp_open.specs.Plans.{ArePlanned, HaveBodies, IsOpenFault};
 
 use crate::opening::{Opened, Parts};
@@ -35,13 +33,7 @@ pub trait Session<R, J: Drop, S: Drop>: Drop {
         system: System<N, J, S>,
         hands: Vec<Hand<N, J, S>>,
         client: Client<N, Body<J, S>>,
-    ) -> Self::Output
-        // All parts of the tree are there, so that it can be closed.
-        requires complete { IsComplete system hands.items client }
-        // The client is the first: it stops the root, and takes the root's notes.
-        requires root { is_some client.waiter ≡ true }
-        // Each hand reads the counts of each supervisor.
-        requires reads { CanRead system.tables hands.items };
+    ) -> Self::Output;
 }
 
 /// Opens a tree of 1 to 64 supervisors, the root first, for 1 to 8 hands, and runs a session with it.
@@ -90,7 +82,6 @@ fn run_named<
     requires deques { AllAt (λ k id. id ≡ N.deque k) parts.queue }
     requires slots { parts.words.slots ≡ slots_of (length parts.inboxes.items) }
     requires few { length parts.inboxes.items ≤ MAX_TABLES }
-    requires some { 0 < length parts.queue }
     ensures bodies { OnOk result (HaveBodies parts.plans.items) }
     ensures fault { IfErr result (λ back. IsOpenFault parts.plans.items back.fault) }
     ensures back { IfErr result (λ back. back.plans.items ≡ parts.plans.items) }
@@ -204,7 +195,6 @@ fn run_growing<
     requires deques { AllAt (λ k id. id ≡ N.deque k) parts.queue }
     requires slots { parts.words.slots ≡ slots_of (length parts.inboxes.items) }
     requires few { length parts.inboxes.items ≤ MAX_TABLES }
-    requires some { 0 < length parts.queue }
     ensures bodies { OnOk result (HaveBodies parts.plans.items) }
     ensures fault { IfErr result (λ back. IsOpenFault parts.plans.items back.fault) }
     ensures back { IfErr result (λ back. back.plans.items ≡ parts.plans.items) }
