@@ -17,8 +17,6 @@ use otp_tree::{
 use std::alloc::Global;
 use std::process::Abort;
 use std::sync::Wait;
-use std::thread;
-use std::thread::Threads;
 
 type Tree<N> = System<N, Worker, BoxedSubsystem>;
 
@@ -284,7 +282,7 @@ fn a_tree_has_64_supervisors_at_most(rt: HostRuntime) {
     drop(report);
 }
 
-// How many supervisors each thread adds.
+// How many supervisors are added at a time.
 const EACH: usize = 20;
 
 // Adds supervisors one by one. Their numbers.
@@ -334,22 +332,6 @@ fn are_once(rt: &impl Abort, one: &[usize], other: &[usize]) {
     }
 }
 
-// Two threads add at once.
-fn add_from_threads<N: TreeNaming + Send + Sync, R: Threads + Wait + Abort + Sync>(
-    rt: &R,
-    alloc: Global,
-    system: &Tree<N>,
-    one: Common,
-    other: Common,
-) {
-    let (numbers, others) = thread::join(
-        rt,
-        move || add_many(rt, alloc, system, one),
-        move || add_many(rt, alloc, system, other),
-    );
-    are_once(rt, numbers.as_slice(), others.as_slice());
-}
-
 #[derive(Drop)]
 struct Sharing {
     one: Common,
@@ -357,7 +339,7 @@ struct Sharing {
     alloc: Global,
 }
 
-impl<R: Threads + Wait + Abort + Sync> Session<R, Worker, BoxedSubsystem> for Sharing {
+impl<R: Wait + Abort> Session<R, Worker, BoxedSubsystem> for Sharing {
     type Output = Closed;
 
     fn run<N: TreeNaming + Send + Sync>(
@@ -368,7 +350,9 @@ impl<R: Threads + Wait + Abort + Sync> Session<R, Worker, BoxedSubsystem> for Sh
         client: Client<N, Body<Worker, BoxedSubsystem>>,
     ) -> Closed {
         let Sharing { one, other, alloc } = self;
-        add_from_threads(rt, alloc, &system, one, other);
+        let numbers = add_many(rt, alloc, &system, one);
+        let others = add_many(rt, alloc, &system, other);
+        are_once(rt, numbers.as_slice(), others.as_slice());
         got(
             rt,
             "all parts are here",
@@ -378,7 +362,7 @@ impl<R: Threads + Wait + Abort + Sync> Session<R, Worker, BoxedSubsystem> for Sh
 }
 
 #[test]
-fn two_threads_add_different_supervisors(rt: HostRuntime) {
+fn each_supervisor_that_is_added_has_a_number_of_its_own(rt: HostRuntime) {
     let shared = common(&rt, rt.alloc());
     let plans = childless(&rt, rt.alloc(), &shared);
     let sharing = Sharing {
