@@ -1,15 +1,18 @@
 -- A tree that was drawn up, by the plans that it was opened with.
-use Rattle.std.proofs.Common.{Some, None, Option, ◌≡◌, ℕ, zero, suc, ◌≤◌, List, [], ◌∷◌, Bool, true, false, All, Result, arith, length, map, refl, sym, ap, ◌∙◌, subst}
-use Rattle.std.specs.Prelude.{slice_get, IfSome, if◌then◌else◌}
-use Rattle.otp_close.specs.Closes.{HaveBegun, report_in}
+use Rattle.std.proofs.Common.{inl, inr, ⊎_elim, Some, None, Option, ◌≡◌, ℕ, zero, suc, ◌≤◌, List, [], ◌∷◌, Bool, true, false, All, Result, arith, length, map, refl, sym, ap, ◌∙◌, subst}
+use Rattle.std.specs.Prelude.{◌⊎◌, slice_get, IfSome, if◌then◌else◌}
+use Rattle.std.proofs.lemmas.Bool.Decides.{leb_tells}
+use Rattle.otp_close.specs.Closes.{HasTables, HaveBegun, report_in}
 use Rattle.otp_close.specs.declared.closing.CloseFault.{CloseFault}
 use Rattle.otp_draft.specs.Plans.{HasAllBodies, Planned, numbered, seen}
 use Rattle.otp_draft.specs.Trees.{Tree}
 use Rattle.otp_draft.specs.Trees as draft
 use Rattle.otp_draft.specs.declared.plan.TablePlan as drawn
 use Rattle.otp_open.proofs.EachOpened.{none_lacks}
+use Rattle.otp_open.proofs.SparePlaces.{all_known}
 use Rattle.otp_open.specs.Plans.{HaveBodies, Suffice}
 use Rattle.otp_open.specs.Plans as opened
+use Rattle.otp_open.specs.declared.opening.SystemFault.TheVariants as unopened
 use Rattle.otp_open.specs.declared.plan.TablePlan.{TablePlan}
 use Rattle.otp_report.specs.declared.report.Report.{Report}
 use Rattle.otp_report.specs.declared.report.TableReport.{TableReport}
@@ -20,10 +23,14 @@ use Rattle.otp_spec.specs.Flags.{is_simple}
 use Rattle.otp_spec.specs.Supervisor.{Supervisor}
 use Rattle.otp_spec.specs.declared.child.ChildSpec.{ChildSpec}
 use Rattle.otp_sup.specs.Plans.{IsBegunBy}
+use Rattle.otp_tree.specs.Adds.{IsAddFault, IsGivenBack}
 use Rattle.otp_tree.specs.Closes.{IsRunOpenFault}
+use Rattle.otp_tree.specs.declared.adding.AddFault.{AddFault}
+use Rattle.otp_tree.specs.declared.adding.AddFault.TheVariants as add
+use Rattle.otp_tree.specs.declared.adding.Unadded.{Unadded}
 use Rattle.otp_tree.specs.declared.whole.RunFault.{RunFault}
 use Rattle.otp_tree.specs.declared.whole.RunFault.TheVariants as run
-use Rattle.otp.specs.Runs.{HasPlansBack, IsRunNoneBare, seen_in_tree, supervisor_in, supervisors_of}
+use Rattle.otp.specs.Runs.{HasPlansBack, IsAddNoneBare, IsRunNoneBare, seen_in_tree, supervisor_in, supervisors_of}
 
 -- so many bodies are one for each child
 is_enough : (simple : Bool) (specs : List ChildSpec) (bodies : ℕ) → bodies ≡ (if simple then 0 else length specs) → length (opening_specs simple specs) ≤ bodies
@@ -72,3 +79,23 @@ module _ {J S : Type 0} where
   pub plans_back : (plans : List (TablePlan J S)) (root : Tree J S) (why : RunFault J S) → map seen_in_tree plans ≡ numbered 0 (draft.plans_of root) → IsRunOpenFault plans why → HasPlansBack root why
   plans_back plans root (run.Open back) same fault = ap (map seen_in_tree) fault.1 ∙ same
   plans_back plans root (run.Close why) same fault = tt
+
+  -- the same of plans that are added
+  pub add_none_bare : (plans : List (TablePlan J S)) (why : AddFault) → HaveBodies plans → IsAddFault plans why → IsAddNoneBare why
+  add_none_bare plans (add.NoBody table) all fault = none_lacks plans (unopened.NoBody table) all fault
+  add_none_bare plans (add.WrongBody table) all fault = tt
+  add_none_bare plans add.OutOfMemory all fault = tt
+  add_none_bare plans add.TooManyTables all fault = tt
+  add_none_bare plans add.Occupied all fault = tt
+
+  pub added_back : (plans : List (TablePlan J S)) (tree : Tree J S) (back : Unadded J S) → map seen_in_tree plans ≡ numbered 0 (draft.plans_of tree) → IsGivenBack plans back
+      → (back.fault ≡ add.Occupied) ⊎ (map seen_in_tree back.plans.items ≡ numbered 0 (draft.plans_of tree))
+  added_back plans tree back same (inl occupied) = inl occupied
+  added_back plans tree back same (inr given) = inr (ap (map seen_in_tree) given ∙ same)
+
+  -- a report has no fewer supervisors than the tree was opened with
+  pub no_fewer : (plans : List (TablePlan J S)) (places tables : ℕ) → length plans ≤ places → HasTables (opened.plans_of plans) places tables → length plans ≤ tables
+  no_fewer plans places tables few has = ⊎_elim
+      (λ m. m.1)
+      (λ l. let lt = l.1 in let less = has.planned tables (omega (arith, lt, few)) (all_known plans tables lt) in absurd (omega (arith, less)))
+      (leb_tells (length plans) tables)

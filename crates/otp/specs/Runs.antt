@@ -7,12 +7,21 @@ use Rattle.otp_draft.specs.declared.fault.Refused.{Refused}
 use Rattle.otp_run.specs.Rule.{all_parts}
 use Rattle.otp_spec.specs.Supervisor.{Supervisor}
 use Rattle.otp_tree.specs.Closes.{IsRunMismatchOnly, IsRunNoneMissing}
+use Rattle.otp_tree.specs.declared.adding.AddFault.{AddFault}
+use Rattle.otp_tree.specs.declared.adding.AddFault.TheVariants as add
 use Rattle.otp_tree.specs.declared.whole.RunFault.{RunFault}
 use Rattle.otp_tree.specs.declared.whole.RunFault.TheVariants as run
 use Rattle.otp_open.specs.Plans.{IsNotBare}
 use Rattle.otp_open.specs.declared.plan.TablePlan.{TablePlan}
+use Rattle.otp.specs.declared.adding.NotAdded.{NotAdded}
+use Rattle.otp.specs.declared.adding.NotAdded.TheVariants as not_added
 use Rattle.otp.specs.declared.fault.Unrun.{Unrun}
 use Rattle.otp.specs.declared.fault.Unrun.TheVariants as unrun
+
+-- no child is said to have no body
+abbrev pub IsAddNoneBare : AddFault → Type 0
+IsAddNoneBare (add.NoBody table) = ⊥
+IsAddNoneBare _ = ⊤
 
 module _ {J S : Type 0} where
   -- what a plan says
@@ -48,3 +57,17 @@ module _ {J S : Type 0} where
   IsBack hands root (unrun.Hands given) = (given ≡ root) × ((hands < 1) ⊎ (all_parts < hands))
   IsBack hands root (unrun.Unfinished back) = IsUnfinished root back
   IsBack hands root (unrun.Run why) = (finish_fault root ≡ None) × (IsRunMismatchOnly why × (IsRunNoneMissing why × (IsRunNoneBare why × HasPlansBack root why)))
+
+  -- a tree that was not added to one that runs comes back: as it was drawn up where it wasn't finished, else as its plans, unless a
+  -- place had a supervisor already
+  abbrev pub IsNotAdded : Tree J S → NotAdded J S → Type 0
+  IsNotAdded tree (not_added.Unfinished back) = IsUnfinished tree back
+  IsNotAdded tree (not_added.Unadded back) =
+      IsAddNoneBare back.fault × ((back.fault ≡ add.Occupied) ⊎ (map seen_in_tree back.plans.items ≡ numbered 0 (plans_of tree)))
+  IsNotAdded tree (not_added.Over plans) = ⊥
+
+  -- the same by a caller. What a hand did for it lay under a lock, and is known by its type alone
+  abbrev pub IsNotGrown : Tree J S → NotAdded J S → Type 0
+  IsNotGrown tree (not_added.Unfinished back) = IsUnfinished tree back
+  IsNotGrown tree (not_added.Unadded back) = ⊤
+  IsNotGrown tree (not_added.Over plans) = ⊤

@@ -1,12 +1,14 @@
 //! A tree that was drawn up is added to one that runs.
-ghost use Rattle.std.specs.Prelude.{◌≡◌, None, OnOk};
+ghost use Rattle.std.specs.Prelude.{◌≡◌, IfErr, None, OnOk};
 ghost use Rattle.otp_draft.specs.Faults.{finish_fault};
+ghost use Rattle.otp.specs.Runs.{IsNotAdded, IsNotGrown};
 
 use crate::running::plans;
 use otp_draft::{Refused, TreeDraft};
 use otp_job::Body;
+use otp_live::{AddError, Caller};
 use otp_sup::SupNaming;
-use otp_tree::{System, Unadded};
+use otp_tree::{System, TablePlan, Unadded};
 use std::alloc::Global;
 use std::sync::Wait;
 
@@ -17,11 +19,42 @@ pub enum NotAdded<J: Drop, S: Drop> {
     Unfinished(Refused<TreeDraft<J, S>>),
     /// The tree that runs didn't take it. Its plans come back.
     Unadded(Unadded<J, S>),
+    /// The run has ended. Its plans come back, unless none were left.
+    Over(Option<Vec<TablePlan<J, S>>>),
 }
 
-/// Adds a tree to one that runs, where that was opened with room for it ([`with_growing_system`](crate::with_growing_system)). The answer
-/// is what a start call brings that makes its top somebody's child ([`System::submit`]): a child specification of type
-/// supervisor, with as much time to shut down as it wants.
+/// Adds a tree to one that runs, where that was run with room for it ([`run_growing`](crate::run_growing)): from any thread, by a
+/// caller. The answer is what a start call brings that makes its top somebody's child
+/// ([`Caller::start_child`]): with a child specification of type supervisor, and as much time to shut down as it wants.
+///
+/// # Errors
+///
+/// As [`TreeDraft::finish`], with the tree; or as [`Caller::add_tree`], with its plans.
+pub fn grow<R, J, S>(
+    rt: &R,
+    alloc: Global,
+    caller: &Caller<J, S>,
+    tree: TreeDraft<J, S>,
+) -> Result<Body<J, S>, NotAdded<J, S>>
+where
+    R: Wait,
+    J: Drop,
+    S: Drop,
+    ensures lawful { OnOk result (finish_fault tree ≡ None) }
+    ensures back { IfErr result (IsNotGrown tree) }
+{
+    match plans(alloc, tree) {
+        Ok(plans) => match caller.add_tree(rt, plans) {
+            Ok(top) => Ok(Body::Sup(top)),
+            Err(AddError::Refused(back)) => Err(NotAdded::Unadded(back)),
+            Err(AddError::Over(plans)) => Err(NotAdded::Over(plans)),
+        },
+        Err(back) => Err(NotAdded::Unfinished(back)),
+    }
+}
+
+/// The same in a session, where the tree was opened with room ([`with_growing_tree`](crate::with_growing_tree)). The start call is
+/// [`System::submit`].
 ///
 /// # Errors
 ///
@@ -38,6 +71,7 @@ where
     J: Drop,
     S: Drop,
     ensures lawful { OnOk result (finish_fault tree ≡ None) }
+    ensures back { IfErr result (IsNotAdded tree) }
 {
     match plans(alloc, tree) {
         Ok(plans) => match system.add_tree(rt, alloc, plans) {

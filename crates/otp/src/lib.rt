@@ -2,8 +2,9 @@
 //!
 //! A child is a [`Job`]. A supervisor is drawn up child by child ([`TreeDraft`]), and goes by value below another; so
 //! nobody numbers supervisors. [`run`] runs a tree until its root has ended or a [`Stop`] is raised, on threads that sleep while
-//! there is nothing to do. [`run_turns`] is a life counted in turns, and [`lead`] goes round by round, as a [`Leader`] says. Each fault of a draft has its name ([`DraftFault`]), and what was handed in comes back with it ([`Refused`],
-//! [`Unrun`]); where it needn't, `?` makes a [`Fault`] of it.
+//! there is nothing to do. [`run_turns`] is a life counted in turns, and [`lead`] goes round by round, as a [`Leader`] says. Each
+//! fault of a draft has its name ([`DraftFault`]), and what was handed in comes back with it ([`Refused`], [`Unrun`]); where it
+//! needn't, `?` makes a [`Fault`] of it.
 //!
 //! ```text
 //! let mut pool = TreeDraft::new(alloc, SupFlags::default());
@@ -16,8 +17,8 @@
 //! ```
 //!
 //! `crates/otp_uses/src/until_stopped.rt` is this whole, with its job: another thread raises the stop, and a watch writes what
-//! happens. Whoever does more with the open tree writes a [`Session`] for [`with_tree`]. To a tree that [`with_growing_system`]
-//! opened, with [`plans`] of it, a session adds others while it runs ([`add_tree`]).
+//! happens. To a tree that is run with room for more ([`run_growing`]) any thread adds others ([`grow`]). Whoever does more with the
+//! open tree writes a [`Session`] for [`with_tree`], or for [`with_growing_tree`], to which it adds others ([`add_tree`]).
 //!
 //! # Limits
 //!
@@ -31,29 +32,106 @@ pub mod running;
 pub mod still;
 mod watching;
 
-pub use adding::{NotAdded, add_tree};
-pub use fault::{Fault, Unrun};
-pub use otp_bridge::{BoxedSubsystem, Bridge, Subsystem};
+pub use adding::NotAdded;
+pub use adding::add_tree;
+pub use adding::grow;
+pub use fault::Fault;
+pub use fault::Unrun;
+pub use otp_bridge::BoxedSubsystem;
+pub use otp_bridge::Bridge;
+pub use otp_bridge::Subsystem;
 pub use otp_core::ReplyAnswer;
-pub use otp_draft::{
-    Child, ChildKeys, DraftFault, MAX_DEPTH, Refused, Runs, TreeDraft, TreePath, find_path,
-};
-pub use otp_job::{Body, BoxedJob, Job, NoWaker, Place, Told, Turn};
-pub use otp_live::{
-    Answer, CallError, Caller, DeleteRefusal, GetRefusal, Happening, LogLines, Mailbox, NoRefusal,
-    RestartRefusal, Seen, StartEnd, StartRefusal, Stop, TerminateRefusal, Unwatched, Waker, Watch,
-};
-pub use otp_reason::{Name, Note, Reason, Started, Text};
-pub use otp_rules::{Call, CountsNow, Reply};
-pub use otp_spec::{
-    AutoShutdown, ChildSpec, ChildType, MAX_CHILDREN, MAX_TABLES, Modules, Restart, Shutdown,
-    SpecFault, SpecKey, Strategy, SupFlags,
-};
-pub use otp_tree::{
-    AddFault, CallEnd, CallId, CallRefusal, CallRequest, Client, CountedRun, Gate, Hand, Leader,
-    Led, MAX_HANDS, Millis, NoTable, Report, Round, RunFault, Session, System, SystemFault,
-    TablePlan, TableReport, TreeNaming, Unadded, Uncalled, Unopened, with_growing_system,
-    with_system,
-};
-pub use running::{lead, plans, run, run_counted, run_turns, run_with_callers, with_tree};
+pub use otp_draft::Child;
+pub use otp_draft::ChildKeys;
+pub use otp_draft::DraftFault;
+pub use otp_draft::MAX_DEPTH;
+pub use otp_draft::Refused;
+pub use otp_draft::Runs;
+pub use otp_draft::TreeDraft;
+pub use otp_draft::TreePath;
+pub use otp_draft::find_path;
+pub use otp_job::Body;
+pub use otp_job::BoxedJob;
+pub use otp_job::Job;
+pub use otp_job::NoWaker;
+pub use otp_job::Place;
+pub use otp_job::Told;
+pub use otp_job::Turn;
+pub use otp_live::AddError;
+pub use otp_live::Answer;
+pub use otp_live::CallError;
+pub use otp_live::Caller;
+pub use otp_live::DeleteRefusal;
+pub use otp_live::GetRefusal;
+pub use otp_live::Happening;
+pub use otp_live::LogLines;
+pub use otp_live::Mailbox;
+pub use otp_live::NoRefusal;
+pub use otp_live::RestartRefusal;
+pub use otp_live::Seen;
+pub use otp_live::StartEnd;
+pub use otp_live::StartRefusal;
+pub use otp_live::Stop;
+pub use otp_live::TerminateRefusal;
+pub use otp_live::Unwatched;
+pub use otp_live::Waker;
+pub use otp_live::Watch;
+pub use otp_reason::Name;
+pub use otp_reason::Note;
+pub use otp_reason::Reason;
+pub use otp_reason::Started;
+pub use otp_reason::Text;
+pub use otp_rules::Call;
+pub use otp_rules::CountsNow;
+pub use otp_rules::Reply;
+pub use otp_spec::AutoShutdown;
+pub use otp_spec::ChildSpec;
+pub use otp_spec::ChildType;
+pub use otp_spec::MAX_CHILDREN;
+pub use otp_spec::MAX_TABLES;
+pub use otp_spec::Modules;
+pub use otp_spec::Restart;
+pub use otp_spec::Shutdown;
+pub use otp_spec::SpecFault;
+pub use otp_spec::SpecKey;
+pub use otp_spec::Strategy;
+pub use otp_spec::SupFlags;
+pub use otp_tree::AddFault;
+pub use otp_tree::CallEnd;
+pub use otp_tree::CallId;
+pub use otp_tree::CallRefusal;
+pub use otp_tree::CallRequest;
+pub use otp_tree::Client;
+pub use otp_tree::CountedRun;
+pub use otp_tree::Gate;
+pub use otp_tree::Hand;
+pub use otp_tree::Leader;
+pub use otp_tree::Led;
+pub use otp_tree::MAX_HANDS;
+pub use otp_tree::Millis;
+pub use otp_tree::NoTable;
+pub use otp_tree::Report;
+pub use otp_tree::Round;
+pub use otp_tree::RunFault;
+pub use otp_tree::Session;
+pub use otp_tree::System;
+pub use otp_tree::SystemFault;
+pub use otp_tree::TablePlan;
+pub use otp_tree::TableReport;
+pub use otp_tree::TreeNaming;
+pub use otp_tree::Unadded;
+pub use otp_tree::Uncalled;
+pub use otp_tree::Unopened;
+pub use otp_tree::with_growing_system;
+pub use otp_tree::with_system;
+pub use running::GrowingTree;
+pub use running::lead;
+pub use running::plans;
+pub use running::run;
+pub use running::run_counted;
+pub use running::run_growing;
+pub use running::run_turns;
+pub use running::run_with_callers;
+pub use running::with_growing_tree;
+pub use running::with_tree;
 pub use still::Still;

@@ -14,10 +14,11 @@ use crate::watching::{AtPaths, paths_for};
 use otp_bridge::Subsystem;
 use otp_draft::{DraftFault, Refused, TablePlan, TreeDraft};
 use otp_job::Job;
-use otp_live::{Caller, Stop, Watch, close_callers};
+use otp_live::{Caller, Growing, Stop, Watch, close_callers};
+use otp_spec::MAX_TABLES;
 use otp_tree::{
     CountedRun, Gate, Leader, Led, MAX_HANDS, Report, RunFault, Session, run_tree_counted,
-    with_system,
+    with_growing_system, with_system,
 };
 use std::alloc::Global;
 use std::sync::Wait;
@@ -166,6 +167,53 @@ where
     ensures lawful { OnOk result (finish_fault root ≡ None) }
     ensures back { IfErr result (IsBack hands root) }
 {
+    let tree = GrowingTree { root, room: 0 };
+    match run_growing(rt, alloc, tree, hands, stop, watch, callers) {
+        Ok(report) => Ok(report),
+        Err(why) => Err(why),
+    }
+}
+
+/// A tree that may grow while it runs.
+#[derive(Drop)]
+pub struct GrowingTree<J: Drop, S: Drop> {
+    pub root: TreeDraft<J, S>,
+    /// How many supervisors can be added, as far as a tree can have [`MAX_TABLES`]. What each costs from the opening on,
+    /// [`otp_live::Growing`] has.
+    pub room: usize,
+}
+
+/// The same, where trees can be added while it runs ([`grow`](crate::grow)). A watch is told no path of a supervisor that was
+/// added, and its number ([`Seen`](crate::Seen)).
+///
+/// The report has the supervisors in the order of the tree's paths, and those that were added behind them, as they were.
+///
+/// # Errors
+///
+/// As [`run_with_callers`].
+pub fn run_growing<R, J, S, W>(
+    rt: &R,
+    alloc: Global,
+    tree: GrowingTree<J, S>,
+    hands: usize,
+    stop: &Stop,
+    watch: &W,
+    callers: &[Caller<J, S>],
+) -> Result<Report<J, S>, Unrun<J, S>>
+where
+    R: Threads + Wait + Clock + Sync,
+    J: Job + Send,
+    S: Subsystem + Send,
+    W: Watch + Sync,
+    ensures report { IfOk result (λ report. IsReportOf (length report.tables.items) report) }
+    // It has each supervisor of the tree, and no more than there was room for.
+    ensures some { IfOk result (λ report. size tree.root ≤ length report.tables.items) }
+    ensures few { IfOk result (λ report. length report.tables.items ≤ size tree.root + tree.room) }
+    ensures plans { IfOk result (λ report. HaveBegun (supervisors_of tree.root) report.tables.items) }
+    ensures lawful { OnOk result (finish_fault tree.root ≡ None) }
+    ensures back { IfErr result (IsBack hands tree.root) }
+{
+    let GrowingTree { root, room } = tree;
     let Ok(paths) = paths_for(alloc, &root, watch) else {
         close_callers(rt, callers);
         return Err(Unrun::Unfinished(Refused {
@@ -181,16 +229,29 @@ where
             return Err(why);
         }
     };
+    let places = places_for(plans.len(), room);
     let at_paths = AtPaths {
         paths: paths.as_slice(),
+        places,
         watch,
     };
-    let ran = otp_live::run_with_callers(rt, alloc, plans, hands, stop, &at_paths, callers);
+    let growing = Growing { plans, places };
+    let ran = otp_live::run_growing(rt, alloc, growing, hands, stop, &at_paths, callers);
     drop(paths);
     match ran {
         Ok(report) => Ok(report),
         Err(why) => Err(Unrun::Run(why)),
     }
+}
+
+/// The places of a tree of so many supervisors with room for so many more.
+fn places_for(tables: usize, room: usize) -> usize
+    requires { tables ≤ MAX_TABLES }
+    ensures all { tables ≤ result }
+    ensures few { result ≤ MAX_TABLES }
+    ensures room { result ≤ tables + room }
+{
+    tables + room.min(MAX_TABLES - tables)
 }
 
 /// The whole life of a tree in one call, counted in turns: each of 1 to 8 hands makes so many turns in a thread of its own, then the
@@ -328,6 +389,40 @@ where
         }
     };
     match with_system(rt, alloc, plans, hands, session) {
+        Ok(output) => Ok(output),
+        Err(why) => Err(Unrun::Run(RunFault::Open(why))),
+    }
+}
+
+/// The same, where trees can be added while it runs ([`add_tree`](crate::add_tree)).
+///
+/// # Errors
+///
+/// As [`with_tree`].
+pub fn with_growing_tree<R, J, S, T>(
+    rt: &R,
+    alloc: Global,
+    tree: GrowingTree<J, S>,
+    hands: usize,
+    session: T,
+) -> Result<T::Output, Unrun<J, S>>
+where
+    J: Drop,
+    S: Drop,
+    T: Session<R, J, S>,
+    ensures lawful { OnOk result (finish_fault tree.root ≡ None) }
+    ensures back { IfErr result (IsBack hands tree.root) }
+{
+    let GrowingTree { root, room } = tree;
+    let plans = match plans_for(alloc, root, hands) {
+        Ok(plans) => plans,
+        Err(why) => {
+            drop(session);
+            return Err(why);
+        }
+    };
+    let places = places_for(plans.len(), room);
+    match with_growing_system(rt, alloc, plans, places, hands, session) {
         Ok(output) => Ok(output),
         Err(why) => Err(Unrun::Run(RunFault::Open(why))),
     }

@@ -9,16 +9,21 @@ use std::alloc::{AllocError, Global};
 pub(crate) struct AtPaths<'a, W> {
     /// The paths of the tree's supervisors, by their numbers.
     pub paths: &'a [TreePath],
+    /// How many places the tree has: as the number of a supervisor it stands for whose child the root is.
+    pub places: usize,
     pub watch: &'a W,
 }
 
 impl<W: Watch> Watch for AtPaths<'_, W> {
     fn saw(&self, seen: Seen) {
-        let path = match self.paths.get(seen.table) {
-            Some(path) => Some(path.as_bytes()),
-            None => None,
-        };
-        self.watch.saw_at(path, seen);
+        if let Some(path) = self.paths.get(seen.table) {
+            self.watch.saw_at(Some(path.as_bytes()), seen);
+        } else if seen.table == self.places {
+            self.watch.saw_at(None, seen);
+        } else {
+            // It was added, and its path depends on whose child it was made.
+            self.watch.saw(seen);
+        }
     }
 
     fn is_told(&self) -> bool {

@@ -182,6 +182,8 @@ pub fn finish<N: TreeNaming, J: Drop, S: Drop, R: Wait>(
     known: usize,
 ) -> Result<Report<J, S>, CloseFault<J, S, ()>>
     requires { IsFreeFrom N.plan shared.tables known }
+    ensures whole { IfOk result (λ report. IsReportOf (length report.tables.items) report) }
+    ensures count { IfOk result (λ report. HasTables N.plan shared.tables (length report.tables.items)) }
     ensures report { AreAllPlanned N.plan shared.tables → IfOk result (IsReportOf shared.tables) }
     ensures plans { IfSome (report_in result) (λ report. HaveBegun N.plan report.tables.items) }
     ensures mismatch { IfErr result IsMismatchOnly }

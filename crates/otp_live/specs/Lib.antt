@@ -1,3 +1,4 @@
 pub mod Spans
 pub mod Reaches
 mod Answers
+pub mod Shortened

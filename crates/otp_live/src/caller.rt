@@ -1,23 +1,72 @@
-//! Whoever calls the supervisors of a running tree from a thread of its own.
+//! Whoever calls the supervisors of a running tree from a thread of its own, or adds some to it.
+ghost use Rattle.std.specs.Prelude.{◌<◌, length};
 
 use crate::locked::{Locked, ReachNaming};
 use otp_core::ReplyAnswer;
-use otp_job::Body;
+use otp_job::{Body, TableNo};
 use otp_rules::{Call, Reply};
 use otp_sup::SupNaming;
-use otp_tree::{CallRefusal, System, Uncalled};
+use otp_tree::{CallRefusal, System, TablePlan, Unadded, Uncalled};
 use otp_wake::{Bells, Stop};
 use std::alloc::{AllocError, Global};
+use std::marker::Model;
 use std::mem;
 use std::sync::atomic::{AtomicU64, Ordering};
 use std::sync::{Arc, Mutex, Wait};
 
 /// A call that is to be sent.
 #[derive(Drop)]
-struct Wanted<J: Drop, S: Drop> {
+struct Outgoing<J: Drop, S: Drop> {
     table: usize,
     call: Call,
     body: Option<Body<J, S>>,
+}
+
+/// The plans of supervisors that are to be added: one at least.
+#[derive(Drop)]
+struct Plans<J: Drop, S: Drop> {
+    all: Vec<TablePlan<J, S>>,
+}
+
+impl<J: Drop, S: Drop> Model for Plans<J, S> {
+    ghost use Rattle.std.specs.Prelude.{◌<◌, ℕ, length};
+
+    ghost Value = { ℕ };
+
+    ghost view = { λ p. length p.all.items };
+
+    ghost invariant = { λ p. 0 < length p.all.items };
+}
+
+impl<J: Drop, S: Drop> Plans<J, S> {
+    fn of(all: Vec<TablePlan<J, S>>) -> Self
+        requires { 0 < length all.items }
+    {
+        Plans { all }
+    }
+
+    fn into_all(self) -> Vec<TablePlan<J, S>>
+        ensures { 0 < length result.items }
+    {
+        let Plans { all } = self;
+        all
+    }
+}
+
+/// What a hand is to do for a caller.
+#[derive(Drop)]
+enum Wanted<J: Drop, S: Drop> {
+    Call(Outgoing<J, S>),
+    Tree(Plans<J, S>),
+}
+
+/// Why no supervisor was added.
+#[derive(Drop)]
+pub enum AddError<J: Drop, S: Drop> {
+    /// The tree didn't take them. Their plans are back.
+    Refused(Unadded<J, S>),
+    /// The run has ended. The plans are back, unless none were left.
+    Over(Option<Vec<TablePlan<J, S>>>),
 }
 
 /// What came of a call.
@@ -34,29 +83,38 @@ pub enum Answer<J: Drop, S: Drop> {
     Over(Option<Body<J, S>>),
 }
 
-/// How far a caller's call is.
+/// What came of what a caller wanted.
+#[derive(Drop)]
+enum Came<J: Drop, S: Drop> {
+    Answer(Answer<J, S>),
+    Added(Result<TableNo, AddError<J, S>>),
+}
+
+/// How far it is, what a caller wants.
 #[derive(Drop)]
 enum Stage<J: Drop, S: Drop> {
-    /// There is none.
+    /// It wants nothing.
     Idle,
     Wanted(Wanted<J, S>),
-    /// It was sent to this supervisor, under this number.
+    /// A call was sent to this supervisor, under this number.
     Sent(usize, u64),
     /// This came of it, which the caller has still to take.
-    Answered(Answer<J, S>),
+    Came(Came<J, S>),
+    /// The same, and the run has ended meanwhile.
+    Last(Came<J, S>),
     /// The run has ended.
     Closed,
 }
 
-/// What a mark says: there is nothing to be done for the caller; its call is to be sent; its answer is awaited.
+/// What a mark says: there is nothing to be done for the caller; a hand is to do what it wants; its answer is awaited.
 const IDLE: u64 = 0;
 
 const WANTED: u64 = 1;
 
 const SENT: u64 = 2;
 
-/// One who calls the supervisors of a tree while it runs: threads share it, each of them makes one call after the other, and waits for
-/// its answer. A tree may be run with several, which don't wait for each other.
+/// One who calls the supervisors of a tree while it runs, or adds some to it: threads share it, each of them makes one call after the
+/// other, and waits for its answer. A tree may be run with several, which don't wait for each other.
 ///
 /// A caller belongs to one run. A call that is made before the run begins waits for it. Once the run has ended each call is answered
 /// [`Answer::Over`].
@@ -89,7 +147,8 @@ impl<J: Drop, S: Drop> Caller<J, S> {
         })
     }
 
-    /// Calls the supervisor with this number, with a body exactly where the call starts a new child, and waits for the answer.
+    /// Calls the supervisor with this number, with a body exactly where the call starts a new child, and waits for the answer. One that
+    /// has ended, or wasn't started yet, takes the call up once it is started: until then, or until the run has ended, there is none.
     pub fn call<R: Wait>(
         &self,
         rt: &R,
@@ -98,15 +157,49 @@ impl<J: Drop, S: Drop> Caller<J, S> {
         body: Option<Body<J, S>>,
     ) -> Answer<J, S> {
         let line = self.line.lock(rt);
-        let answer = match self.want(rt, Wanted { table, call, body }) {
-            Ok(()) => self.wait(rt),
-            Err(wanted) => Answer::Over(wanted.body),
-        };
+        let wanted = Wanted::Call(Outgoing { table, call, body });
+        let came = self.wait_for(rt, wanted);
         drop(line);
-        answer
+        match came {
+            Came::Answer(answer) => answer,
+            Came::Added(_) => Answer::Over(None),
+        }
     }
 
-    /// Puts a call there for the hands to send. It comes back where the run has ended.
+    /// Adds supervisors to the tree while it runs, from any thread, where it was run with room for them
+    /// ([`run_growing`](crate::run_growing)). The answer is the number of the first, [`Body::Sup`] of the call that makes it
+    /// somebody's child ([`Caller::start_child`]): with a specification of type supervisor, and as much time to shut down as it wants.
+    ///
+    /// The plans are as for [`System::add_tree`]; who has a draft has [`otp::grow`](../otp/adding/fn.grow.html) for it.
+    ///
+    /// # Errors
+    ///
+    /// [`AddError`], with the plans.
+    pub fn add_tree<R: Wait>(
+        &self,
+        rt: &R,
+        plans: Vec<TablePlan<J, S>>,
+    ) -> Result<TableNo, AddError<J, S>>
+        requires { 0 < length plans.items }
+    {
+        let line = self.line.lock(rt);
+        let came = self.wait_for(rt, Wanted::Tree(Plans::of(plans)));
+        drop(line);
+        match came {
+            Came::Added(added) => added,
+            Came::Answer(_) => Err(AddError::Over(None)),
+        }
+    }
+
+    /// Has a hand do what is wanted, and waits for what comes of it.
+    fn wait_for<R: Wait>(&self, rt: &R, wanted: Wanted<J, S>) -> Came<J, S> {
+        match self.want(rt, wanted) {
+            Ok(()) => self.wait(rt),
+            Err(wanted) => undone(wanted),
+        }
+    }
+
+    /// Puts there what the hands are to do. It comes back where the run has ended.
     fn want<R: Wait>(&self, rt: &R, wanted: Wanted<J, S>) -> Result<(), Wanted<J, S>> {
         let mut stage = self.stage.lock(rt);
         if let Stage::Closed = &*stage {
@@ -120,27 +213,31 @@ impl<J: Drop, S: Drop> Caller<J, S> {
         Ok(())
     }
 
-    /// Sleeps until the answer is there, and takes it.
-    fn wait<R: Wait>(&self, rt: &R) -> Answer<J, S> {
+    /// Sleeps until something came of it, and takes that.
+    fn wait<R: Wait>(&self, rt: &R) -> Came<J, S> {
         for _ in rt.forever() {
             let announced = self.own.announce(0);
-            if let Some(answer) = self.take_answer(rt) {
+            if let Some(came) = self.take_what_came(rt) {
                 drop(announced);
-                return answer;
+                return came;
             }
             announced.sleep(rt, None);
         }
-        Answer::Over(None)
+        Came::Answer(Answer::Over(None))
     }
 
-    /// Takes the answer, if it is there.
-    fn take_answer<R: Wait>(&self, rt: &R) -> Option<Answer<J, S>> {
+    /// Takes what came of it, if something did.
+    fn take_what_came<R: Wait>(&self, rt: &R) -> Option<Came<J, S>> {
         let mut stage = self.stage.lock(rt);
         match mem::replace(&mut *stage, Stage::Idle) {
-            Stage::Answered(answer) => Some(answer),
+            Stage::Came(came) => Some(came),
+            Stage::Last(came) => {
+                *stage = Stage::Closed;
+                Some(came)
+            }
             Stage::Closed => {
                 *stage = Stage::Closed;
-                Some(Answer::Over(None))
+                Some(Came::Answer(Answer::Over(None)))
             }
             other => {
                 *stage = other;
@@ -149,7 +246,7 @@ impl<J: Drop, S: Drop> Caller<J, S> {
         }
     }
 
-    /// Whether its call is to be sent.
+    /// Whether a hand is to do something for it.
     pub(crate) fn is_wanted(&self) -> bool {
         self.mark.load(Ordering::SeqCst) == WANTED
     }
@@ -159,16 +256,16 @@ impl<J: Drop, S: Drop> Caller<J, S> {
         self.mark.load(Ordering::SeqCst) == SENT
     }
 
-    /// Notes that this is what came of its call, and wakes the caller.
-    fn answer<R: Wait>(&self, rt: &R, answer: Answer<J, S>) {
+    /// Notes that this is what came of it, and wakes the caller.
+    fn tell<R: Wait>(&self, rt: &R, came: Came<J, S>) {
         let mut stage = self.stage.lock(rt);
-        *stage = Stage::Answered(answer);
+        *stage = Stage::Came(came);
         self.mark.store(IDLE, Ordering::SeqCst);
         drop(stage);
         self.own.ring(0);
     }
 
-    /// Takes the call that is to be sent, so that no other hand does.
+    /// Takes what is to be done, so that no other hand does.
     fn take_wanted<R: Wait>(&self, rt: &R) -> Option<Wanted<J, S>> {
         let mut stage = self.stage.lock(rt);
         match mem::replace(&mut *stage, Stage::Idle) {
@@ -183,8 +280,8 @@ impl<J: Drop, S: Drop> Caller<J, S> {
         }
     }
 
-    /// Sends its call to the supervisor, and answers to which.
-    pub(crate) fn send<N, K, R>(
+    /// Does what it wants. Where a call was sent it answers to which supervisor.
+    pub(crate) fn serve<N, K, R>(
         &self,
         rt: &R,
         alloc: Global,
@@ -196,7 +293,34 @@ impl<J: Drop, S: Drop> Caller<J, S> {
         K: ReachNaming,
         R: Wait,
     {
-        let Wanted { table, call, body } = self.take_wanted(rt)?;
+        match self.take_wanted(rt)? {
+            Wanted::Call(call) => self.send(rt, alloc, system, client, call),
+            Wanted::Tree(plans) => {
+                let added = match system.add_tree(rt, alloc, plans.into_all()) {
+                    Ok(top) => Ok(top),
+                    Err(back) => Err(AddError::Refused(back)),
+                };
+                self.tell(rt, Came::Added(added));
+                None
+            }
+        }
+    }
+
+    /// Sends its call to the supervisor, and answers to which.
+    fn send<N, K, R>(
+        &self,
+        rt: &R,
+        alloc: Global,
+        system: &System<N, J, S>,
+        client: &Mutex<Locked<N, K, J, S>>,
+        outgoing: Outgoing<J, S>,
+    ) -> Option<usize>
+    where
+        N: SupNaming,
+        K: ReachNaming,
+        R: Wait,
+    {
+        let Outgoing { table, call, body } = outgoing;
         let mut client = client.lock(rt);
         let sent = client.submit(rt, alloc, system, table, call, body);
         drop(client);
@@ -208,7 +332,7 @@ impl<J: Drop, S: Drop> Caller<J, S> {
                 Some(table)
             }
             Err(Uncalled { cause, body }) => {
-                self.answer(rt, Answer::Unsent(cause, body));
+                self.tell(rt, Came::Answer(Answer::Unsent(cause, body)));
                 None
             }
         }
@@ -236,7 +360,7 @@ impl<J: Drop, S: Drop> Caller<J, S> {
             drop(stage);
             return;
         };
-        *stage = Stage::Answered(answer);
+        *stage = Stage::Came(Came::Answer(answer));
         self.mark.store(IDLE, Ordering::SeqCst);
         drop(stage);
         self.own.ring(0);
@@ -246,13 +370,24 @@ impl<J: Drop, S: Drop> Caller<J, S> {
     pub(crate) fn close<R: Wait>(&self, rt: &R) {
         let mut stage = self.stage.lock(rt);
         let next = match mem::replace(&mut *stage, Stage::Closed) {
-            Stage::Wanted(wanted) => Stage::Answered(Answer::Over(wanted.body)),
-            Stage::Answered(answer) => Stage::Answered(answer),
+            Stage::Wanted(wanted) => Stage::Last(undone(wanted)),
+            Stage::Came(came) | Stage::Last(came) => Stage::Last(came),
             Stage::Sent(..) | Stage::Idle | Stage::Closed => Stage::Closed,
         };
         *stage = next;
         drop(stage);
         self.own.ring(0);
+    }
+}
+
+/// What comes of it where the run has ended.
+fn undone<J: Drop, S: Drop>(wanted: Wanted<J, S>) -> Came<J, S> {
+    match wanted {
+        Wanted::Call(call) => {
+            let Outgoing { body, .. } = call;
+            Came::Answer(Answer::Over(body))
+        }
+        Wanted::Tree(plans) => Came::Added(Err(AddError::Over(Some(plans.into_all())))),
     }
 }
 

@@ -119,7 +119,7 @@ impl<'a, C: Clock, W: Watch, J: Drop, S: Drop> Crew<'a, C, W, J, S> {
         self.stop.is_raised() && self.is_asked.load(Ordering::SeqCst) == 0
     }
 
-    /// Whether a call is to be sent.
+    /// Whether a caller wants something.
     pub fn is_called(&self) -> bool {
         is_any_wanted(self.callers)
     }
@@ -201,7 +201,7 @@ impl<'a, C: Clock, W: Watch, J: Drop, S: Drop> Crew<'a, C, W, J, S> {
     }
 }
 
-/// Whether one of them has a call that is to be sent.
+/// Whether one of them wants something.
 fn is_any_wanted<J: Drop, S: Drop>(callers: &[Caller<J, S>]) -> bool {
     for caller in callers {
         if caller.is_wanted() {

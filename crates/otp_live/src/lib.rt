@@ -16,7 +16,7 @@
 //! happened, with no lock held.
 //!
 //! Any thread calls the supervisors of a tree that runs by a [`Caller`], as OTP's `supervisor:restart_child` and the others do: a
-//! tree is run with some ([`run_with_callers`]).
+//! tree is run with some ([`run_with_callers`]). By it supervisors are added, where the tree has room for them ([`run_growing`]).
 //!
 //! # Sleep
 //!
@@ -32,6 +32,7 @@ pub mod calls;
 pub mod clock;
 mod crew;
 mod crowd;
+pub mod growing;
 mod live;
 mod locked;
 pub mod log;
@@ -45,8 +46,9 @@ pub use answers::{
     CallError, DeleteRefusal, GetRefusal, NoRefusal, RestartRefusal, StartEnd, StartRefusal,
     TerminateRefusal,
 };
-pub use caller::{Answer, Caller};
+pub use caller::{AddError, Answer, Caller};
 pub use clock::Stopwatch;
+pub use growing::{Growing, run_growing};
 pub use live::{close_callers, run, run_for, run_with_callers};
 pub use log::{LogLines, write_line, write_line_at};
 pub use mailbox::Mailbox;

@@ -2,10 +2,10 @@
 ghost use Rattle.std.specs.Prelude.{◌≡◌, ◌<◌, ◌≤◌, length, IfErr, IfOk, OnOk};
 ghost use Rattle.otp_spec.specs.declared.limits.TheConstants.{MAX_READING, MAX_TABLES};
 ghost use Rattle.otp_run.specs.Rule.{all_parts};
-ghost use Rattle.otp_close.specs.Closes.{HaveBegun, IsReportOf};
+ghost use Rattle.otp_close.specs.Closes.{HasTables, HaveBegun, IsReportOf};
 ghost use Rattle.otp_hand.specs.Standings.{standing_of};
 ghost use Rattle.otp_tree.specs.Closes.{IsRunMismatchOnly, IsRunNoneMissing, IsRunOpenFault};
-ghost use Rattle.otp_open.specs.Plans.{HaveBodies, plans_of};
+ghost use Rattle.otp_open.specs.Plans.{HaveBodies, first_plans, plans_of};
 
 use crate::caller::Caller;
 use crate::clock::Stopwatch;
@@ -40,8 +40,8 @@ const PAUSE: u64 = 1;
 ///
 /// # Errors
 ///
-/// [`RunFault::Open`] where memory is refused, or a plan lacks a body: nothing ran, and the plans come back. [`RunFault::Close`] where memory for the report
-/// is refused, and in two cases that don't happen ([`CloseFault`](otp_tree::CloseFault)).
+/// [`RunFault::Open`] where memory is refused, or a plan lacks a body: nothing ran, and the plans come back. [`RunFault::Close`] where
+/// memory for the report is refused, and in two cases that don't happen ([`CloseFault`](otp_tree::CloseFault)).
 pub fn run<R, J, S, W>(
     rt: &R,
     alloc: Global,
@@ -164,7 +164,7 @@ where
     )
 }
 
-/// Runs a tree so long, with these callers.
+/// Runs a tree so long, with these callers. Nothing can be added to it.
 fn run_spanned<R, J, S, W>(
     rt: &R,
     alloc: Global,
@@ -194,6 +194,41 @@ where
     ensures bodies { OnOk result (HaveBodies plans.items) }
     ensures opened { IfErr result (IsRunOpenFault plans.items) }
 {
+    let known = plans.len();
+    match run_places(rt, alloc, plans, known, hands, stop, span, watch, callers) {
+        Ok(report) => Ok(report),
+        Err(why) => Err(why),
+    }
+}
+
+/// Runs a tree of these places so long, with these callers; the first so many have a supervisor.
+pub(crate) fn run_places<R, J, S, W>(
+    rt: &R,
+    alloc: Global,
+    plans: Vec<TablePlan<J, S>>,
+    known: usize,
+    hands: usize,
+    stop: &Stop,
+    span: Span,
+    watch: &W,
+    callers: &[Caller<J, S>],
+) -> Result<Report<J, S>, RunFault<J, S>>
+where
+    R: Threads + Wait + Clock + Sync,
+    J: Job + Send,
+    S: Subsystem + Send,
+    W: Watch + Sync,
+    requires tables { length plans.items ≤ MAX_TABLES }
+    requires some { 0 < hands }
+    requires few { hands ≤ all_parts }
+    ensures report { IfOk result (λ report. IsReportOf (length report.tables.items) report) }
+    ensures count { IfOk result (λ report. HasTables (first_plans known plans.items) (length plans.items) (length report.tables.items)) }
+    ensures plans { IfOk result (λ report. HaveBegun (first_plans known plans.items) report.tables.items) }
+    ensures mismatch { IfErr result IsRunMismatchOnly }
+    ensures missing { IfErr result IsRunNoneMissing }
+    ensures bodies { OnOk result (HaveBodies plans.items) }
+    ensures opened { IfErr result (IsRunOpenFault plans.items) }
+{
     let clock = Stopwatch::start(rt);
     let Ok(crew) = gather(
         alloc,
@@ -208,7 +243,7 @@ where
         close_callers(rt, callers);
         return Err(RunFault::Open(Unopened::for_memory(plans)));
     };
-    let report = serve_tree(rt, alloc, plans, hands, &crew);
+    let report = serve_tree(rt, alloc, plans, known, hands, &crew);
     close_callers(rt, callers);
     report
 }
@@ -275,7 +310,7 @@ where
             ask(rt, seat, system, client);
         }
         if crew.is_called() {
-            send_calls(rt, seat, system, client);
+            serve_callers(rt, seat, system, client);
         }
         mind_crowds(crew, hand);
         let is_busy = serve_some(rt, seat, system, hand, crowd.turns());
@@ -339,8 +374,8 @@ where
     seat.crew.wake_home(seat.hand, 0);
 }
 
-/// Sends the calls that are to be sent, and wakes the hands in which those wait that are called.
-fn send_calls<N, K, R, J, S, W>(
+/// Does what callers want, and wakes the hands in which those wait that are called.
+fn serve_callers<N, K, R, J, S, W>(
     rt: &R,
     seat: &Seat<'_, R, W, J, S>,
     system: &System<N, J, S>,
@@ -356,7 +391,7 @@ where
 {
     let crew = seat.crew;
     for caller in crew.callers {
-        if let Some(table) = caller.send(rt, crew.alloc, system, client) {
+        if let Some(table) = caller.serve(rt, crew.alloc, system, client) {
             crew.wake_home(seat.hand, table);
         }
     }

@@ -1,13 +1,13 @@
 //! A tree is opened, served by each hand in a thread of its own, and closed.
-ghost use Rattle.std.specs.Prelude.{◌≡◌, ◌<◌, ◌≤◌, length, IfErr, IfOk, OnOk, Some};
+ghost use Rattle.std.specs.Prelude.{◌≡◌, ◌<◌, ◌≤◌, ℕ, length, IfErr, IfOk, None, OnOk};
 ghost use Rattle.otp_spec.specs.declared.limits.TheConstants.{MAX_TABLES};
 ghost use Rattle.otp_run.specs.Lists.{AllAt};
 ghost use Rattle.otp_run.specs.Rule.{all_parts};
-ghost use Rattle.otp_close.specs.Closes.{HaveBegun, IsReportOf};
+ghost use Rattle.otp_close.specs.Closes.{HasTables, HaveBegun, IsReportOf};
 ghost use Rattle.otp_hand.specs.Standings.{reach_of, standing_of, standings};
 ghost use Rattle.otp_tree.specs.Closes.{IsRunMismatchOnly, IsRunNoneMissing, IsRunOpenFault};
 ghost use Rattle.otp_open.specs.Opens.{slots_of};
-ghost use Rattle.otp_open.specs.Plans.{HaveBodies, plans_of};
+ghost use Rattle.otp_open.specs.Plans.{ArePlanned, HaveBodies, first_plans};
 
 use crate::crew::Crew;
 use crate::live::serve;
@@ -29,11 +29,13 @@ use std::thread;
 use std::thread::Threads;
 use std::time::Clock;
 
-/// Opens a tree for so many hands, serves it by each of them until its root has ended, and closes it.
+/// Opens a tree of these places, of which the first so many have a supervisor, for so many hands, serves it by each of them until its
+/// root has ended, and closes it.
 pub(crate) fn serve_tree<R, J, S, W>(
     rt: &R,
     alloc: Global,
     plans: Vec<TablePlan<J, S>>,
+    known: usize,
     hands: usize,
     crew: &Crew<'_, R, W, J, S>,
 ) -> Result<Report<J, S>, RunFault<J, S>>
@@ -45,15 +47,19 @@ where
     requires tables { length plans.items ≤ MAX_TABLES }
     requires some { 0 < hands }
     requires few { hands ≤ all_parts }
-    ensures report { IfOk result (IsReportOf (length plans.items)) }
-    ensures plans { IfOk result (λ report. HaveBegun (plans_of plans.items) report.tables.items) }
+    ensures report { IfOk result (λ report. IsReportOf (length report.tables.items) report) }
+    ensures count { IfOk result (λ report. HasTables (first_plans known plans.items) (length plans.items) (length report.tables.items)) }
+    ensures plans { IfOk result (λ report. HaveBegun (first_plans known plans.items) report.tables.items) }
     ensures mismatch { IfErr result IsRunMismatchOnly }
     ensures missing { IfErr result IsRunNoneMissing }
     ensures bodies { OnOk result (HaveBodies plans.items) }
     ensures opened { IfErr result (IsRunOpenFault plans.items) }
 {
-    let parts = Parts::open(alloc, plans, hands)?;
-    serve_named::<Brand, R, J, S, W>(rt, alloc, parts, crew)
+    let parts = match Parts::open(alloc, plans, hands) {
+        Ok(parts) => parts,
+        Err(back) => return Err(RunFault::Open(back)),
+    };
+    serve_named::<Brand, R, J, S, W>(rt, alloc, parts, known, crew)
 }
 
 // Whoever calls this picks the names, which the language allows for the traits alone that have them.
@@ -61,6 +67,7 @@ fn serve_named<N, R, J, S, W>(
     rt: &R,
     alloc: Global,
     parts: Parts<J, S>,
+    known: usize,
     crew: &Crew<'_, R, W, J, S>,
 ) -> Result<Report<J, S>, RunFault<J, S>>
 where
@@ -71,22 +78,24 @@ where
     W: Watch + Sync,
     requires words { parts.words.words ≡ N.words }
     requires inboxes { AllAt (λ k id. id ≡ N.inbox k) parts.inboxes.items }
-    requires plans { AllAt (λ k plan. N.plan k ≡ Some plan.supervisor) parts.plans.items }
+    requires plans { ArePlanned N.plan parts.plans.items }
+    requires free { (k : ℕ) → known ≤ k → N.plan k ≡ None }
     requires as_many { length parts.plans.items ≡ length parts.inboxes.items }
     requires outer { parts.outer ≡ N.inbox (length parts.inboxes.items) }
     requires deques { AllAt (λ k id. id ≡ N.deque k) parts.queue }
     requires slots { parts.words.slots ≡ slots_of (length parts.inboxes.items) }
     requires few { length parts.inboxes.items ≤ MAX_TABLES }
     requires some { 0 < length parts.queue }
-    ensures report { IfOk result (IsReportOf (length parts.inboxes.items)) }
+    ensures report { IfOk result (λ report. IsReportOf (length report.tables.items) report) }
+    ensures count { IfOk result (λ report. HasTables N.plan (length parts.inboxes.items) (length report.tables.items)) }
     ensures plans { IfOk result (λ report. HaveBegun N.plan report.tables.items) }
     ensures mismatch { IfErr result IsRunMismatchOnly }
     ensures missing { IfErr result IsRunNoneMissing }
     ensures bodies { OnOk result (HaveBodies parts.plans.items) }
     ensures opened { IfErr result (IsRunOpenFault parts.plans.items) }
 {
-    let opened = match parts.named::<N>(alloc) {
-        Ok(opened) => opened,
+    let all = match parts.named_growing::<N>(alloc, known) {
+        Ok(all) => all,
         Err(back) => return Err(RunFault::Open(back)),
     };
     let Opened {
@@ -94,7 +103,7 @@ where
         mut hands,
         client,
         passes,
-    } = opened;
+    } = all;
     drop(passes);
     let client = serve_locked::<N, Brand, R, J, S, W>(rt, crew, &system, &mut hands, client);
     match system.finish(rt, alloc, hands, client) {

@@ -8,8 +8,8 @@ use otp_tree::Happening;
 pub struct Seen {
     /// Milliseconds since the run began.
     pub at: u64,
-    /// The number of the supervisor whose child it is, in the order of the plans, the root being 0. How many supervisors the tree has,
-    /// where it is the root itself.
+    /// The number of the supervisor whose child it is, in the order of the plans, the root being 0, and behind them in the order in
+    /// which they were added. Where it is the root itself, how many supervisors the tree can have.
     pub table: usize,
     /// The id of the child. A dynamic one has none, nor has the root.
     pub id: Option<Name>,

@@ -6,6 +6,8 @@ mod calls;
 #[cfg(test)]
 mod drawn;
 #[cfg(test)]
+mod grows;
+#[cfg(test)]
 mod guests;
 #[cfg(test)]
 mod runs;

@@ -8,7 +8,7 @@ use Rattle.otp_sup.specs.Plans.{AreAllPlanned, IsPlanned}
 use Rattle.otp_spec.specs.Flags.{default_flags, is_simple}
 use Rattle.otp_spec.specs.Lawful.{first_fault}
 use Rattle.otp_spec.specs.Supervisor.{IsLawful, Supervisor}
-use Rattle.otp_open.specs.Plans.{ArePlanned, HasBodies, HaveBodies, IsOpenFault, Lacks, LacksBody, plans_of}
+use Rattle.otp_open.specs.Plans.{ArePlanned, HasBodies, HaveBodies, IsOpenFault, Lacks, LacksBody, first_plans, plans_of, supervisor_in}
 use Rattle.otp_open.specs.Spares.{ArePadded, IsSpare}
 use Rattle.otp_open.specs.declared.opening.SystemFault.{SystemFault}
 use Rattle.otp_open.specs.declared.opening.SystemFault.TheVariants as fault
@@ -109,3 +109,14 @@ module _ {J S : Type 0} where
   all_planned names [] all k within = absurd (omega (arith, within))
   all_planned names (x ∷ xs) all zero within = ap (λ (s : Option Supervisor). is_some s) (all zero)
   all_planned names (x ∷ xs) all (suc k) within = all_planned (λ j. names (suc j)) xs (λ j. all (suc j)) k (omega (arith, within))
+
+  -- where no place is spare the first plans are all
+  pub none_left_out : (count : ℕ) (plans : List (TablePlan J S)) → count ≡ length plans → first_plans count plans ≡ plans_of plans
+  none_left_out count plans many = ap (λ (l : List (TablePlan J S)). plans_of l) (padded_front (length plans) count plans plans many (none_spare plans))
+
+  pub all_known : (plans : List (TablePlan J S)) → AreAllPlanned (plans_of plans) (length plans)
+  all_known plans = all_planned (plans_of plans) plans (λ k. by (slice_get plans k))
+    where
+      by : (o : Option (TablePlan J S)) → IfSome o (λ plan. supervisor_in o ≡ Some plan.supervisor)
+      by None = tt
+      by (Some plan) = refl

@@ -1,5 +1,6 @@
 -- Supervisors that are added to a tree. (own)
-use Rattle.std.specs.Prelude.{◌≡◌, ℕ, ◌≤◌, ⊤, List, [], ◌∷◌, All, Bool, true, length, nat_lt}
+use Rattle.std.specs.Prelude.{◌≡◌, ℕ, ◌≤◌, ⊤, List, [], ◌∷◌, All, Bool, MatchOption, true, length, nat_lt, slice_get}
+use Rattle.std.specs.List.{AllPass}
 use Rattle.otp_bodies.specs.Bodies.{BodiesView}
 use Rattle.otp_draft.specs.Plans.{IsNear}
 use Rattle.otp_job.specs.declared.body.Body.{Body}
@@ -13,6 +14,18 @@ module _ {J S : Type 0} where
   is_within count (body.Sup number) = nat_lt number count
   is_within count (body.Worker job) = true
   is_within count (body.Bridge bridge) = true
+
+  -- each child of it that is a supervisor has a number below this one
+  abbrev pub IsWithin : ℕ → TablePlan J S → Type 0
+  IsWithin count plan = AllPass (is_within count) plan.bodies.items
+
+  -- each child of these plans that is a supervisor is one of them
+  abbrev pub AreWithin : List (TablePlan J S) → Type 0
+  AreWithin plans = AllAt (λ _ plan. IsWithin (length plans) plan) plans
+
+  -- the plan at this place has a child that is a supervisor and none of them
+  abbrev pub IsStrangerAt : List (TablePlan J S) → ℕ → Type 0
+  IsStrangerAt plans table = MatchOption (slice_get plans table) ⊥ (λ plan. ¬ (IsWithin (length plans) plan))
 
   -- each child of these plans that is a supervisor has a number below 64
   abbrev pub AreNear : List (TablePlan J S) → Type 0

@@ -1,5 +1,5 @@
 -- The plans of a tree, by their places in the list, and why none is opened of them. (own)
-use Rattle.std.specs.Prelude.{◌≡◌, ◌<◌, ◌≤◌, ℕ, ⊤, List, Option, Some, None, MatchOption, length, slice_get}
+use Rattle.std.specs.Prelude.{◌≡◌, ◌<◌, ◌≤◌, ℕ, ⊤, List, Option, Some, None, MatchOption, length, slice_get, take}
 use Rattle.otp_bodies.specs.Bodies.{count_opened}
 use Rattle.otp_run.specs.Lists.{AllAt}
 use Rattle.otp_spec.specs.Supervisor.{Supervisor}
@@ -28,6 +28,10 @@ module _ {J S : Type 0} where
   -- the flags and the specifications that the supervisor of each number is opened with; none where there is no plan for it
   abbrev pub plans_of : List (TablePlan J S) → ℕ → Option Supervisor
   plans_of plans k = supervisor_in (slice_get plans k)
+
+  -- the same of the first so many plans; the others are of places that are spare
+  abbrev pub first_plans : ℕ → List (TablePlan J S) → ℕ → Option Supervisor
+  first_plans count plans = plans_of (take count plans)
 
   -- of each of these plans the name has the flags and the specifications, or none
   abbrev pub ArePlanned : (ℕ → Option Supervisor) → List (TablePlan J S) → Type 0

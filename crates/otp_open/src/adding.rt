@@ -1,9 +1,10 @@
 //! Supervisors are added to places of a tree that have none. All memory is taken before anything is moved, so that a refusal
 //! leaves the plans whole; then each place gets its supervisor, under the place's own lock.
 ghost use Rattle.std.specs.Prelude.{◌≡◌, ◌+◌, ◌<◌, ◌≤◌, ℕ, All, IfNone, IfOk, IfSome, IsTrue, None, false, length};
+ghost use Rattle.std.specs.List.{AllPass};
 ghost use Rattle.otp_draft.specs.Plans.{IsNear};
 ghost use Rattle.otp_spec.specs.declared.limits.TheConstants.{MAX_TABLES};
-ghost use Rattle.otp_open.specs.Adds.{AreNear, Fit, IsSpaceFor, is_within};
+ghost use Rattle.otp_open.specs.Adds.{AreNear, AreWithin, Fit, IsSpaceFor, IsStrangerAt, is_within};
 ghost use Rattle.otp_open.specs.Plans.{HasBodies, HaveBodies, IsLackingAt, LacksBody};
 
 use crate::plan::TablePlan;
@@ -39,10 +40,13 @@ fn lacks_body<J: Drop, S: Drop>(plan: &TablePlan<J, S>) -> bool
 /// The number of the first of these plans that has a supervisor for a child which isn't among them.
 pub fn find_stranger<J: Drop, S: Drop>(plans: &[TablePlan<J, S>]) -> Option<usize>
     requires { length plans.now ≤ MAX_TABLES }
-    ensures { IfNone result (AreNear plans.now) }
+    ensures within { IfNone result (AreWithin plans.now) }
+    ensures near { IfNone result (AreNear plans.now) }
+    ensures strange { IfSome result (IsStrangerAt plans.now) }
 {
-    for place in 0..plans.len() {
-        if !are_within(plans[place].bodies.as_slice(), plans.len()) {
+    let count = plans.len();
+    for place in 0..count {
+        if !are_within(plans[place].bodies.as_slice(), count) {
             return Some(place);
         }
     }
@@ -52,7 +56,9 @@ pub fn find_stranger<J: Drop, S: Drop>(plans: &[TablePlan<J, S>]) -> Option<usiz
 /// Whether each of them that is a supervisor has a number below this one.
 fn are_within<J: Drop, S: Drop>(bodies: &[Body<J, S>], count: usize) -> bool
     requires { count ≤ MAX_TABLES }
-    ensures { IsTrue result → All IsNear bodies.now }
+    ensures within { IsTrue result → AllPass (is_within count) bodies.now }
+    ensures near { IsTrue result → All IsNear bodies.now }
+    ensures strange { result ≡ false → ¬ (AllPass (is_within count) bodies.now) }
 {
     for place in 0..bodies.len() {
         if !is_within(&bodies[place], count) {

@@ -1,7 +1,7 @@
 //! Supervisors are added to a running tree (supervisor, start_child/2, with a child that is a supervisor).
 ghost use Rattle.std.specs.Prelude.{◌≡◌, ◌⊎◌, ◌<◌, ◌≤◌, IfErr, IfOk, OnOk, length};
 ghost use Rattle.otp_spec.specs.declared.limits.TheConstants.{MAX_TABLES};
-ghost use Rattle.otp_open.specs.Adds.{AreNear, Fit};
+ghost use Rattle.otp_open.specs.Adds.{AreNear, AreWithin, Fit};
 ghost use Rattle.otp_open.specs.Plans.{HaveBodies};
 ghost use Rattle.otp_tree.specs.Adds.{IsAddFault, IsGivenBack};
 
@@ -57,6 +57,7 @@ impl<N: SupNaming, J: Drop, S: Drop> System<N, J, S> {
         requires { 0 < length plans.items }
         ensures there { IfOk result (λ top. top < self.now.tables) }
         ensures bodies { OnOk result (HaveBodies plans.items) }
+        ensures within { OnOk result (AreWithin plans.items) }
         ensures fault { IfErr result (λ back. IsAddFault plans.items back.fault) }
         ensures back { IfErr result (IsGivenBack plans.items) }
     {

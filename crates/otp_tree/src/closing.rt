@@ -132,6 +132,9 @@ impl<N: SupNaming, J: Drop, S: Drop> System<N, J, S> {
     ) -> Result<Report<J, S>, CloseFault<J, S, ()>>
     where
         N: RunNaming,
+        ensures whole { IfOk result (λ report. IsReportOf (length report.tables.items) report) }
+        // It has each supervisor that the tree was opened with, and those that were added; places that never had one are left out.
+        ensures count { IfOk result (λ report. HasTables N.plan self.tables (length report.tables.items)) }
         ensures report { AreAllPlanned N.plan self.tables → IfOk result (IsReportOf self.tables) }
         ensures plans { IfSome (report_in result) (λ report. HaveBegun N.plan report.tables.items) }
         ensures mismatch { IfErr result IsMismatchOnly }

@@ -271,7 +271,7 @@ impl<J: Drop, S: Drop> Parts<J, S> {
     }
 
     /// The same, where so many supervisors are there at first, and others can be added ([`System::add_tree`]).
-    pub(crate) fn named_growing<N: TreeNaming>(
+    pub fn named_growing<N: TreeNaming>(
         self,
         alloc: Global,
         opened: usize,

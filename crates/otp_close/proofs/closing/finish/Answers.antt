@@ -2,19 +2,19 @@ use Rattle.std.proofs.Common.{◌+◌, ◌∙◌, ap, length, refl, sym, subst, 
 use Rattle.std.specs.Prelude.{IfSome}
 use Rattle.std.proofs.lemmas.List.{length-map}
 use Rattle.otp_run.specs.Rule.{ticket_of}
-use Rattle.otp_close.specs.Closes.{HaveBegun, IsComplete}
+use Rattle.otp_close.specs.Closes.{HaveBegun, IsComplete, IsReportOf}
 use Rattle.otp_close.proofs.Refusals.{none_missing}
 use Rattle.otp_close.proofs.SparePlaces.{all_tables}
 use Rattle.otp_close.proofs.Standings.{complete_kept}
 use Rattle.otp_close.proofs.closing.finish.Goals as goal
 
-pub returns-in-Ok-clause-report : goal.returns-in-Ok-clause-report
-returns-in-Ok-clause-report g c = λ all.
+pub returns-in-Ok-clause-whole : goal.returns-in-Ok-clause-whole
+returns-in-Ok-clause-whole g c =
     let e = c.in-Ok.ensures {u = tt} in
     let report = c.in-Ok.report in
     let total = e.live in
     record {
-      count = all_tables g.N.PlanNaming.plan c.args.shared.tables (length report.tables.items) e.count all;
+      count = refl;
       begins = e.begins;
       shown = e.shown;
       apart = e.apart;
@@ -27,6 +27,12 @@ returns-in-Ok-clause-report g c = λ all.
       starts = e.starts;
       ends = e.ends;
     }
+
+pub returns-in-Ok-clause-report : goal.returns-in-Ok-clause-report
+returns-in-Ok-clause-report g c = λ all.
+    let e = c.in-Ok.ensures {u = tt} in
+    let report = c.in-Ok.report in
+    subst (λ n. IsReportOf n report) (all_tables g.N.PlanNaming.plan c.args.shared.tables (length report.tables.items) e.count all) (returns-in-Ok-clause-whole g c)
 
 pub returns-in-Err-clause-plans : goal.returns-in-Err-clause-plans
 returns-in-Err-clause-plans g c =

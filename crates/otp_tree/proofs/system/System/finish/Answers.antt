@@ -1,6 +1,6 @@
 use Rattle.std.proofs.Common.{subst, sym}
-use Rattle.std.specs.Prelude.{IfOk}
-use Rattle.otp_close.specs.Closes.{IsFreeFrom, IsReportOf}
+use Rattle.std.specs.Prelude.{IfOk, length}
+use Rattle.otp_close.specs.Closes.{HasTables, IsFreeFrom, IsReportOf}
 use Rattle.otp_hand.specs.Hands.{SystemView}
 use Rattle.otp_sup.specs.Plans.{AreAllPlanned}
 use Rattle.otp_tree.proofs.system.System.finish.Goals as goal
@@ -12,3 +12,8 @@ pub returns-clause-report : goal.returns-clause-report
 returns-clause-report g c =
     let plans = g.N.PlanNaming.plan in
     subst (λ (v : SystemView). AreAllPlanned plans v.tables → IfOk c.finish.result (IsReportOf v.tables)) c.self.view_is c.finish.ensures.report
+
+pub returns-clause-count : goal.returns-clause-count
+returns-clause-count g c =
+    let plans = g.N.PlanNaming.plan in
+    subst (λ (v : SystemView). IfOk c.finish.result (λ report. HasTables plans v.tables (length report.tables.items))) c.self.view_is c.finish.ensures.count
