@@ -4,7 +4,9 @@
 // it would have done.
 ghost use Rattle.std.specs.Prelude.{◌≡◌, ◌≤◌, ◌^◌, Some};
 
-use crate::fixtures::{Post, got, hand_in_all, has_told_end, open_parts, same, seat_table, second};
+use crate::fixtures::{
+    Post, got, hand_in_each, has_told_end, open_parts, same, seat_table, second,
+};
 use crate::script::{Known, Stand, Step, known_of, play};
 use otp_core::ReplyAnswer;
 use otp_inbox::{InboxNaming, Sender, UnnamedInbox};
@@ -49,7 +51,7 @@ pub(crate) fn make_driven<N: SupNaming, R: Abort>(
     requires inbox { inbox ≡ N.inbox 0 }
     requires plan { N.plan 0 ≡ Some supervisor }
 {
-    let bodies = hand_in_all(rt, alloc, own);
+    let bodies = hand_in_each(rt, alloc, own);
     let (words, mut owner) = words.named::<N>();
     let Ok(seat) = words.split(&mut owner, 0..256, 1000) else {
         panic!(rt; "no seat");

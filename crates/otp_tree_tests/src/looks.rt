@@ -3,7 +3,7 @@ ghost use Rattle.std.specs.Prelude.{◌≡◌};
 
 use crate::fixtures::{MEMORY, got, same};
 use otp_hand::looks::Looks;
-use otp_hand::{Around, Rested, Resting};
+use otp_hand::{Around, Rested, Resting, Waiting};
 use otp_job::{Body, Process};
 use otp_signals::{OpenWords, Signal, Viewer, Words, WordsNaming};
 use otp_wake::{Bells, Post};
@@ -17,6 +17,9 @@ const COUNT: usize = 64;
 
 // So many that began to wait last are looked at in each turn, where one of all may have been told something.
 const NEWEST: usize = 8;
+
+// So few that all of them are looked at in one turn, where one may have been told something.
+const FEW: usize = 5;
 
 // A process; what it runs is never asked.
 fn process_in(rt: &impl Abort, alloc: Global, slot: usize, number: u64) -> Process<u64, u64> {
@@ -48,6 +51,31 @@ fn all_waiting(rt: &impl Abort, alloc: Global) -> Vec<Process<u64, u64>> {
     for slot in 0..COUNT {
         let process = process_in(rt, alloc, slot, 1);
         got(rt, MEMORY, waiting.push(process));
+    }
+    waiting
+}
+
+// The slot of a process that was taken out or came back, if there is one.
+fn slot_of(taken: Option<Process<u64, u64>>) -> Option<usize> {
+    let Some(process) = taken else {
+        return None;
+    };
+    let slot = process.slot();
+    drop(process);
+    Some(slot)
+}
+
+// Those of the first slots wait in a hand, or stand aside there.
+fn few_waiting(rt: &impl Abort, alloc: Global, is_aside: bool) -> Waiting<u64, u64> {
+    let mut waiting = Waiting::new(alloc);
+    for slot in 0..FEW {
+        let process = process_in(rt, alloc, slot, 1);
+        let back = if is_aside {
+            waiting.set_aside(process)
+        } else {
+            waiting.keep(process)
+        };
+        same(rt, "what was refused", slot_of(back), None);
     }
     waiting
 }
@@ -87,6 +115,31 @@ impl<N: WordsNaming> Watch<N> {
         }
     }
 
+    // Each is woken in turn, the first of them first: it is taken out, and none of the others.
+    fn takes_each(&mut self, rt: &impl Abort, alloc: Global, is_aside: bool) {
+        let mut waiting = few_waiting(rt, alloc, is_aside);
+        for slot in 0..FEW {
+            self.post.wake(slot);
+            let taken = self.take(&mut waiting, is_aside);
+            same(rt, "who was taken", taken, Some(slot));
+            let more = self.take(&mut waiting, is_aside);
+            same(rt, "who else was taken", more, None);
+            self.post.take(slot);
+        }
+        drop(waiting);
+    }
+
+    // The slot of the one that is taken where one of them may have been told something.
+    fn take(&mut self, waiting: &mut Waiting<u64, u64>, is_aside: bool) -> Option<usize> {
+        waiting.notice();
+        let taken = if is_aside {
+            waiting.take_told_aside(&self.words, &mut self.viewer, &self.around)
+        } else {
+            waiting.take_told(&self.words, &mut self.viewer, &self.around)
+        };
+        slot_of(taken)
+    }
+
     // One more waits, for which a signal was posted at the last slot.
     fn finds_told(&mut self, rt: &impl Abort, alloc: Global) {
         let told = process_in(rt, alloc, COUNT - 1, 0);
@@ -116,6 +169,8 @@ fn looks_in<N: WordsNaming, R: Abort>(rt: &R, alloc: Global, opened: OpenWords)
         waiting: all_waiting(rt, alloc),
     };
     watch.finds_each(rt);
+    watch.takes_each(rt, alloc, false);
+    watch.takes_each(rt, alloc, true);
     watch.finds_told(rt, alloc);
     drop(watch);
 }
