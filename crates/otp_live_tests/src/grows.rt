@@ -4,7 +4,7 @@ use crate::drawn::{Draft, add, starts_in};
 use crate::guests::{Guest, Kind, MEMORY, Shared, got, named, same};
 use otp::{
     AddFault, BoxedSubsystem, CallError, Caller, ChildSpec, ChildType, GrowingTree, NotAdded,
-    Report, Shutdown, SupFlags, Unwatched, grow, run_growing,
+    Report, Shutdown, SupFlags, Unrun, Unwatched, grow, run_growing,
 };
 use otp_job::Body;
 use std::alloc::Global;
@@ -114,17 +114,26 @@ fn has_pools(rt: &impl Abort, report: &Report<Guest, BoxedSubsystem>) {
     same(rt, "the second pool", starts_in(report, 2), (Some(2), 0));
 }
 
+// Runs a root of one worker with room for two supervisors.
+fn run_root<R: Threads + Wait + Clock + Abort + Sync>(
+    rt: &R,
+    alloc: Global,
+    hands: usize,
+    shared: &Arc<Shared>,
+    callers: &[Calling],
+) -> Result<Report<Guest, BoxedSubsystem>, Unrun<Guest, BoxedSubsystem>> {
+    let mut root = Draft::new(alloc, SupFlags::default());
+    add(rt, &mut root, "db", Kind::Steady, shared);
+    let tree = GrowingTree { root, room: 2 };
+    run_growing(rt, alloc, tree, hands, &shared.stop, &Unwatched, callers)
+}
+
 fn grow_beside<R: Threads + Wait + Clock + Abort + Sync>(rt: &R, alloc: Global, hands: usize) {
     let shared = Shared::new(rt, alloc);
     let callers = [got(rt, MEMORY, Caller::new(&shared.stop))];
     let (ran, ()) = thread::join(
         rt,
-        || {
-            let mut root = Draft::new(alloc, SupFlags::default());
-            add(rt, &mut root, "db", Kind::Steady, &shared);
-            let tree = GrowingTree { root, room: 2 };
-            run_growing(rt, alloc, tree, hands, &shared.stop, &Unwatched, &callers)
-        },
+        || run_root(rt, alloc, hands, &shared, &callers),
         || grow_and_stop(rt, alloc, &callers[0], &shared),
     );
     let report = got(rt, "the tree was not run", ran);
@@ -138,4 +147,41 @@ fn grow_beside<R: Threads + Wait + Clock + Abort + Sync>(rt: &R, alloc: Global, 
 fn trees_are_added_while_another_runs(rt: HostRuntime) {
     grow_beside(&rt, rt.alloc(), 1);
     grow_beside(&rt, rt.alloc(), 4);
+}
+
+// Two threads add a pool each at the same time, under numbers of their own. Then the tree is stopped.
+fn add_and_stop<R>(rt: &R, alloc: Global, one: &Calling, other: &Calling, shared: &Arc<Shared>)
+where
+    R: Threads + Wait + Abort + Sync,
+{
+    let ((), ()) = thread::join(
+        rt,
+        || start_pool(rt, alloc, one, shared, b"one"),
+        || start_pool(rt, alloc, other, shared, b"two"),
+    );
+    for table in 1..3 {
+        let counts = got(rt, "the counts", one.count_children(rt, table));
+        same(rt, "the children", (table, counts.specs), (table, 2));
+    }
+    shared.stop.raise();
+}
+
+#[test]
+fn two_threads_add_at_once(rt: HostRuntime) {
+    let (rt, alloc) = (&rt, rt.alloc());
+    let shared = Shared::new(rt, alloc);
+    let callers = [
+        got(rt, MEMORY, Caller::new(&shared.stop)),
+        got(rt, MEMORY, Caller::new(&shared.stop)),
+    ];
+    let (ran, ()) = thread::join(
+        rt,
+        || run_root(rt, alloc, 4, &shared, &callers),
+        || add_and_stop(rt, alloc, &callers[0], &callers[1], &shared),
+    );
+    let report = got(rt, "the tree was not run", ran);
+    has_pools(rt, &report);
+    drop(report);
+    drop(callers);
+    drop(shared);
 }

@@ -12,14 +12,11 @@ use otp_reason::{Name, Reason};
 use otp_rules::{Call, Reply};
 use otp_spec::{ChildSpec, ChildType, MAX_TABLES, Shutdown};
 use otp_tree::{
-    AddFault, CallRefusal, Client, Hand, NoTable, Session, System, TablePlan, Uncalled,
-    with_growing_system,
+    AddFault, CallRefusal, Client, Hand, NoTable, Session, System, Uncalled, with_growing_system,
 };
 use std::alloc::Global;
 use std::process::Abort;
 use std::sync::Wait;
-use std::thread;
-use std::thread::Threads;
 
 type Tree<N> = System<N, Worker, BoxedSubsystem>;
 
@@ -285,33 +282,19 @@ fn a_tree_has_64_supervisors_at_most(rt: HostRuntime) {
     drop(report);
 }
 
-// How many trees each thread adds.
+// How many supervisors are added at a time.
 const EACH: usize = 20;
 
-// The plans of so many trees, each a supervisor without children.
-fn trees(rt: &impl Abort, alloc: Global, shared: &Common) -> Vec<Vec<Plan>> {
-    let mut trees = Vec::new(alloc);
-    for _ in 0..EACH {
-        got(rt, MEMORY, trees.push(childless(rt, alloc, shared)));
-    }
-    trees
-}
-
-// Adds trees one by one. The numbers of their tops.
-fn add_each<N, J, S, R>(
+// Adds supervisors one by one. Their numbers.
+fn add_many<N: TreeNaming, R: Wait + Abort>(
     rt: &R,
     alloc: Global,
-    system: &System<N, J, S>,
-    trees: Vec<Vec<TablePlan<J, S>>>,
-) -> Vec<usize>
-where
-    N: TreeNaming,
-    J: Drop,
-    S: Drop,
-    R: Wait + Abort,
-{
+    system: &Tree<N>,
+    shared: Common,
+) -> Vec<usize> {
     let mut numbers = Vec::new(alloc);
-    for plans in trees {
+    for _ in 0..EACH {
+        let plans = childless(rt, alloc, &shared);
         assert!(rt; !plans.is_empty());
         let top = got(
             rt,
@@ -321,28 +304,8 @@ where
         got(rt, MEMORY, numbers.push(top.number()));
         drop(top);
     }
+    drop(shared);
     numbers
-}
-
-// Two threads add trees at once. That what they share may go to a thread is shown for any job and any subsystem.
-fn add_from_threads<N, J, S, R>(
-    rt: &R,
-    alloc: Global,
-    system: &System<N, J, S>,
-    one: Vec<Vec<TablePlan<J, S>>>,
-    other: Vec<Vec<TablePlan<J, S>>>,
-) -> (Vec<usize>, Vec<usize>)
-where
-    N: TreeNaming + Send + Sync,
-    J: Drop + Send,
-    S: Drop + Send,
-    R: Threads + Wait + Abort + Sync,
-{
-    thread::join(
-        rt,
-        move || add_each(rt, alloc, system, one),
-        move || add_each(rt, alloc, system, other),
-    )
 }
 
 // Marks these numbers, none of which is marked yet.
@@ -371,12 +334,12 @@ fn are_once(rt: &impl Abort, one: &[usize], other: &[usize]) {
 
 #[derive(Drop)]
 struct Sharing {
-    one: Vec<Vec<Plan>>,
-    other: Vec<Vec<Plan>>,
+    one: Common,
+    other: Common,
     alloc: Global,
 }
 
-impl<R: Threads + Wait + Abort + Sync> Session<R, Worker, BoxedSubsystem> for Sharing {
+impl<R: Wait + Abort> Session<R, Worker, BoxedSubsystem> for Sharing {
     type Output = Closed;
 
     fn run<N: TreeNaming + Send + Sync>(
@@ -387,7 +350,8 @@ impl<R: Threads + Wait + Abort + Sync> Session<R, Worker, BoxedSubsystem> for Sh
         client: Client<N, Body<Worker, BoxedSubsystem>>,
     ) -> Closed {
         let Sharing { one, other, alloc } = self;
-        let (numbers, others) = add_from_threads(rt, alloc, &system, one, other);
+        let numbers = add_many(rt, alloc, &system, one);
+        let others = add_many(rt, alloc, &system, other);
         are_once(rt, numbers.as_slice(), others.as_slice());
         got(
             rt,
@@ -398,12 +362,12 @@ impl<R: Threads + Wait + Abort + Sync> Session<R, Worker, BoxedSubsystem> for Sh
 }
 
 #[test]
-fn two_threads_add_different_supervisors(rt: HostRuntime) {
+fn each_supervisor_that_is_added_has_a_number_of_its_own(rt: HostRuntime) {
     let shared = common(&rt, rt.alloc());
     let plans = childless(&rt, rt.alloc(), &shared);
     let sharing = Sharing {
-        one: trees(&rt, rt.alloc(), &shared),
-        other: trees(&rt, rt.alloc(), &shared),
+        one: again(&rt, &shared),
+        other: again(&rt, &shared),
         alloc: rt.alloc(),
     };
     drop(shared);
