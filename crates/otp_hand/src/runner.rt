@@ -139,6 +139,8 @@ impl<N: WordsNaming + RunNaming, J: Drop, S: Drop> Port<Body<J, S>> for Runner<N
         ensures counted { OnOk result (self.new.refusals ≡ self.old.refusals) }
         ensures processes { map launched_of self.new.scheduler.own.puts ≡ map launched_of self.old.scheduler.own.puts }
         ensures beside { beside_of self.new ≡ beside_of self.old }
+        // The letter is for the supervisor to which the process belongs whose turn it is.
+        ensures table { OnOk result (IfSome self.new.unsent (λ u. u.ticket.table ≡ table_above self.old.turning)) }
     {
         if self.unsent.is_none() {
             if let Some(unsent) = self.letter_of(note, end) {
