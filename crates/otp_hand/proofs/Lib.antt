@@ -1,4 +1,3 @@
-pub mod Asides
 pub mod EachRead
 pub mod Sendings
 pub mod Standings

@@ -16,7 +16,7 @@ use Rattle.otp_bodies.specs.Ports.{launched, told}
 use Rattle.otp_bodies.specs.declared.port.Launched.{Launched}
 use Rattle.otp_bodies.specs.declared.port.ToldNote.{ToldNote}
 use Rattle.otp_hand.specs.declared.runner.Unsent.{Unsent}
-use Rattle.otp_hand.specs.declared.resting.Rested.{Rested}
+use Rattle.otp_waiting.specs.declared.resting.Rested.{Rested}
 
 pub record HandView (J S : Type 0) : Type 0 where
   pub scheduler : SchedulerState

@@ -1,7 +1,5 @@
 pub mod Seats
 pub mod Sendings
-pub mod Waitings
-pub mod Arounds
 pub mod Hands
 pub mod Standings
 pub mod Begun

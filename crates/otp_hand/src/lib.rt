@@ -3,9 +3,8 @@
 //!
 //! - `senders.rt`: a sender to each supervisor, of which each hand and each client has a list.
 //! - `client.rt`: numbers for calls, and the right to stop the root.
-//! - `hand.rt`: what one thread has; `runner.rt`: what it runs processes with. What waits in it: `waiting.rt` (jobs, and those that
-//!   want a turn and stand aside; both are parked: `parked.rt`, `looks.rt`) and `resting.rt` (supervisors); what it knows of the
-//!   deques: `around.rt`.
+//! - `hand.rt`: what one thread has; `runner.rt`: what it runs processes with. What waits in it, and what it knows of the deques, is
+//!   `otp_waiting`'s.
 //! - `reading.rt`: counts of supervisors, read without their locks.
 //! - `shared.rt`: the signal words and the supervisors themselves.
 //!
@@ -13,27 +12,19 @@
 //! those three; what has to hold of a value's fields is its type's invariant, which whoever changes them has to keep.
 #![tactic(auto)]
 
-pub mod around;
 pub mod client;
 pub mod ending;
 pub mod hand;
-pub mod looks;
 pub mod naming;
-pub mod parked;
 pub mod places;
 pub mod reading;
-pub mod resting;
 pub mod runner;
 pub mod senders;
 pub mod shared;
-pub mod waiting;
 
-pub use around::{Around, is_due};
 pub use client::{Client, ROOT_NUMBER, ROOT_SLOT};
 pub use hand::Hand;
 pub use naming::TreeNaming;
-pub use resting::{Rested, Resting};
 pub use runner::{Runner, Unsent};
 pub use senders::Senders;
 pub use shared::Shared;
-pub use waiting::Waiting;

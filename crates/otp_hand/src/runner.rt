@@ -9,10 +9,7 @@ ghost use Rattle.otp_hand.specs.Ended.{NoneEnded, ends_held};
 ghost use Rattle.otp_hand.specs.Hands.{one_if};
 ghost use Rattle.otp_hand.specs.Turns.{IsTold, Worked, WorkedAsTold, nested_by, table_above, table_nested};
 
-use crate::around::Around;
 use crate::places::put_into;
-use crate::resting::{Rested, Resting};
-use crate::waiting::Waiting;
 use otp_bridge::Subsystem;
 use otp_job::{After, Body, EndNote, Job, Process, Spent, TableNo, Ticket, one_turn_at};
 use otp_reason::Note;
@@ -21,6 +18,7 @@ use otp_run::{RunNaming, SHARE_LIMIT, Scheduler};
 use otp_signals::{Signal, Viewer, Words, WordsNaming};
 use otp_sup::{Letter, NewProcess, Port, Sup, evidence_of};
 use otp_tally::Tally;
+use otp_waiting::{Around, Rested, Resting, Waiting};
 use std::alloc::Global;
 use std::marker::Model;
 
@@ -141,6 +139,8 @@ impl<N: WordsNaming + RunNaming, J: Drop, S: Drop> Port<Body<J, S>> for Runner<N
         ensures counted { OnOk result (self.new.refusals ≡ self.old.refusals) }
         ensures processes { map launched_of self.new.scheduler.own.puts ≡ map launched_of self.old.scheduler.own.puts }
         ensures beside { beside_of self.new ≡ beside_of self.old }
+        // The letter is for the supervisor to which the process belongs whose turn it is.
+        ensures table { OnOk result (IfSome self.new.unsent (λ u. u.ticket.table ≡ table_above self.old.turning)) }
     {
         if self.unsent.is_none() {
             if let Some(unsent) = self.letter_of(note, end) {

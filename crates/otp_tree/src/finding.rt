@@ -3,11 +3,12 @@ ghost use Rattle.std.specs.Prelude.{◌≡◌, ◌<◌, ◌≤◌, length, is_so
 ghost use Rattle.otp_hand.specs.Standings.{standing_of};
 
 use crate::system::System;
-use otp_hand::{Hand, Rested, Senders, Shared, is_due};
+use otp_hand::{Hand, Senders, Shared};
 use otp_job::Body;
 use otp_run::{RunNaming, SHARE_LIMIT};
 use otp_signals::Viewer;
 use otp_sup::SupNaming;
+use otp_waiting::{Rested, is_due};
 
 impl<N: SupNaming, J: Drop, S: Drop> System<N, J, S> {
     /// Makes sure that a hand has a process whose turn it is. The first that is there of these: the supervisor to which the

@@ -2,10 +2,10 @@
 ghost use Rattle.std.specs.Prelude.{◌≡◌};
 
 use crate::fixtures::{MEMORY, got, same};
-use otp_hand::looks::Looks;
-use otp_hand::{Around, Rested, Resting, Waiting};
 use otp_job::{Body, Process};
 use otp_signals::{OpenWords, Signal, Viewer, Words, WordsNaming};
+use otp_waiting::looks::Looks;
+use otp_waiting::{Around, Rested, Resting, Waiting};
 use otp_wake::{Bells, Post};
 use std::alloc::Global;
 use std::marker::Brand;

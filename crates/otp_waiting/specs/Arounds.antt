@@ -1,6 +1,6 @@
 -- How a hand divides its turns: among the processes of its deque, those that stand aside, and those of other deques. (own)
 use Rattle.std.specs.Prelude.{◌⊎◌, ℕ, ◌+◌, ◌-◌, ◌^◌, ◌<◌, ◌≤◌, Bool, true, false, min}
-use Rattle.otp_hand.specs.declared.around.TheConstants.{ENOUGH, PATIENCE}
+use Rattle.otp_waiting.specs.declared.around.TheConstants.{ENOUGH, PATIENCE}
 
 -- what contracts see of what a hand knows of the deques
 pub record Deques : Type 0 where

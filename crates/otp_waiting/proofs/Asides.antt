@@ -2,7 +2,7 @@
 use Rattle.std.proofs.Common.{◌≡◌, ℕ, suc, ◌+◌, ◌-◌, ◌<◌, List, [], ◌∷◌, ◌++◌, length, length-append, take, slice_index_or, slice_set, sym, subst, arith, ap, ◌∙◌}
 use Rattle.std.specs.List.{swap_remove}
 use Rattle.std.specs.Prelude.{Option, None, Some, MatchOption}
-use Rattle.otp_hand.specs.Waitings.{IsTaken}
+use Rattle.otp_waiting.specs.Waitings.{IsTaken}
 
 module _ {A : Type 0} where
   swapped_behind_one : (x : A) (ys : List A) (place : ℕ) (d : A) → place < length ys → swap_remove (x ∷ ys) (suc place) d ≡ x ∷ swap_remove ys place d

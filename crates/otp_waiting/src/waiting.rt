@@ -1,6 +1,6 @@
 //! Processes that wait: until they are told something, or for their next turn.
 ghost use Rattle.std.specs.Prelude.{◌≡◌, ◌+◌, ◌-◌, ◌^◌, ◌<◌, ◌≤◌, ◌++◌, ◌∷◌, [], length, min, slice_index_or, IfNone, IfSome, MatchOption};
-ghost use Rattle.otp_hand.specs.Waitings.{IsPutInFront, IsTaken, IsTakenInFront};
+ghost use Rattle.otp_waiting.specs.Waitings.{IsPutInFront, IsTaken, IsTakenInFront};
 
 use crate::around::Around;
 use crate::parked::Parked;

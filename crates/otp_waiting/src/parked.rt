@@ -1,6 +1,6 @@
 //! Processes of a hand that stand in no deque.
 ghost use Rattle.std.specs.Prelude.{◌≡◌, ◌<◌, ◌++◌, ◌∷◌, [], length, slice_index_or, IfNone, MatchOption};
-ghost use Rattle.otp_hand.specs.Waitings.{IsTaken};
+ghost use Rattle.otp_waiting.specs.Waitings.{IsTaken};
 
 use crate::around::Around;
 use crate::looks::Looks;

@@ -1,7 +1,7 @@
 //! What a hand knows of what is around it.
 ghost use Rattle.std.specs.Prelude.{◌≡◌, ◌↔◌, ◌-◌, ◌≤◌, IsTrue, MatchOption};
-ghost use Rattle.otp_hand.specs.declared.around.TheConstants.{ENOUGH, THEFT_PAUSE};
-ghost use Rattle.otp_hand.specs.Arounds.{IsToComeBack, one_more, passed_after, stock_after};
+ghost use Rattle.otp_waiting.specs.declared.around.TheConstants.{ENOUGH, THEFT_PAUSE};
+ghost use Rattle.otp_waiting.specs.Arounds.{IsToComeBack, one_more, passed_after, stock_after};
 
 use otp_job::Site;
 use otp_wake::Post;
@@ -36,7 +36,7 @@ pub struct Around {
 }
 
 impl Model for Around {
-    ghost use Rattle.otp_hand.specs.Arounds.{Deques};
+    ghost use Rattle.otp_waiting.specs.Arounds.{Deques};
 
     ghost Value = { Deques };
 

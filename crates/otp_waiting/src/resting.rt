@@ -1,6 +1,6 @@
 //! Supervisors' processes that wait until something comes for them.
 ghost use Rattle.std.specs.Prelude.{◌≡◌, ◌<◌, ◌≤◌, ◌++◌, ◌∷◌, [], length, IfSome, MatchOption};
-ghost use Rattle.otp_hand.specs.Waitings.{IsTaken};
+ghost use Rattle.otp_waiting.specs.Waitings.{IsTaken};
 
 use otp_job::Process;
 use otp_signals::Signal;
@@ -33,7 +33,7 @@ pub struct Resting<J: Drop, S: Drop> {
 
 impl<J: Drop, S: Drop> Model for Resting<J, S> {
     ghost use Rattle.std.specs.Prelude.{List};
-    ghost use Rattle.otp_hand.specs.declared.resting.Rested.{Rested};
+    ghost use Rattle.otp_waiting.specs.declared.resting.Rested.{Rested};
 
     ghost Value = { List (Rested J S) };
 
