@@ -1,4 +1,2 @@
 pub mod Spans
-pub mod Reaches
-mod Answers
 pub mod Shortened

@@ -1,9 +1,9 @@
 //! What the hands of a running tree share.
 
-use crate::caller::Caller;
 use crate::clock::Stopwatch;
 use crate::span::Span;
 use crate::watch::{Seen, Watch};
+use otp_caller::Caller;
 use otp_job::Ticket;
 use otp_tree::{Happening, MAX_HANDS};
 use otp_wake::{Bells, Post, Stop};

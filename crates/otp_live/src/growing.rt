@@ -7,11 +7,11 @@ ghost use Rattle.otp_tree.specs.Closes.{IsRunMismatchOnly, IsRunNoneMissing, IsR
 ghost use Rattle.otp_open.specs.Plans.{HaveBodies, plans_of};
 ghost use Rattle.otp_live.specs.Shortened.{IsCutShort};
 
-use crate::caller::Caller;
 use crate::live::{close_callers, run_places};
 use crate::span::Span;
 use crate::watch::Watch;
 use otp_bridge::Subsystem;
+use otp_caller::Caller;
 use otp_job::Job;
 use otp_open::{with_spares, without_spares};
 use otp_tree::{Report, RunFault, TablePlan, Unopened};

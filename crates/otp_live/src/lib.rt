@@ -26,15 +26,11 @@
 //! deadline fires without anybody polling. A bridge wants a turn again and again, so where one runs one hand is awake.
 #![tactic(auto)]
 
-pub mod answers;
-pub mod caller;
-pub mod calls;
 pub mod clock;
 mod crew;
 mod crowd;
 pub mod growing;
 mod live;
-mod locked;
 pub mod log;
 pub mod mailbox;
 mod seat;
@@ -42,16 +38,15 @@ mod served;
 pub mod span;
 pub mod watch;
 
-pub use answers::{
-    CallError, DeleteRefusal, GetRefusal, NoRefusal, RestartRefusal, StartEnd, StartRefusal,
-    TerminateRefusal,
-};
-pub use caller::{AddError, Answer, Caller};
 pub use clock::Stopwatch;
 pub use growing::{Growing, run_growing};
 pub use live::{close_callers, run, run_for, run_with_callers};
 pub use log::{LogLines, write_line, write_line_at};
 pub use mailbox::Mailbox;
+pub use otp_caller::{
+    AddError, Answer, CallError, Caller, DeleteRefusal, GetRefusal, NoRefusal, RestartRefusal,
+    StartEnd, StartRefusal, TerminateRefusal,
+};
 pub use otp_tree::Happening;
 pub use otp_wake::{Stop, Waker};
 pub use span::Span;

@@ -7,16 +7,16 @@ ghost use Rattle.otp_hand.specs.Standings.{standing_of};
 ghost use Rattle.otp_tree.specs.Closes.{IsRunMismatchOnly, IsRunNoneMissing, IsRunOpenFault};
 ghost use Rattle.otp_open.specs.Plans.{HaveBodies, first_plans, plans_of};
 
-use crate::caller::Caller;
 use crate::clock::Stopwatch;
 use crate::crew::Crew;
 use crate::crowd::Crowd;
-use crate::locked::{Locked, ReachNaming};
 use crate::seat::Seat;
 use crate::served::serve_tree;
 use crate::span::{Span, sooner};
 use crate::watch::Watch;
 use otp_bridge::Subsystem;
+use otp_caller::Caller;
+use otp_caller::locked::{Locked, ReachNaming};
 use otp_hand::TreeNaming;
 use otp_job::Job;
 use otp_sup::SupNaming;

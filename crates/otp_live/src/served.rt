@@ -11,10 +11,10 @@ ghost use Rattle.otp_open.specs.Plans.{ArePlanned, HaveBodies, first_plans};
 
 use crate::crew::Crew;
 use crate::live::serve;
-use crate::locked::{Locked, ReachNaming};
 use crate::seat::Seat;
 use crate::watch::Watch;
 use otp_bridge::Subsystem;
+use otp_caller::locked::{Locked, ReachNaming};
 use otp_hand::TreeNaming;
 use otp_inbox::InboxNaming;
 use otp_job::{Body, Job};

@@ -2,7 +2,7 @@
 //! reply stands for what (supervisor, "Exports").
 
 ghost use Rattle.std.specs.Prelude.{◌≡◌};
-ghost use Rattle.otp_live.specs.Answers.{
+ghost use Rattle.otp_caller.specs.Answers.{
   counted,
   deleted,
   delete_refusal,

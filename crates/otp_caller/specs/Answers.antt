@@ -8,20 +8,20 @@ use Rattle.otp_rules.specs.declared.call.CountsNow.{CountsNow}
 use Rattle.otp_rules.specs.declared.call.Reply.{Reply}
 use Rattle.otp_rules.specs.declared.call.Reply.TheVariants as reply
 use Rattle.otp_spec.specs.declared.child.ChildSpec.{ChildSpec}
-use Rattle.otp_live.specs.declared.answers.CallError.{CallError}
-use Rattle.otp_live.specs.declared.answers.CallError.TheVariants as error
-use Rattle.otp_live.specs.declared.answers.DeleteRefusal.{DeleteRefusal}
-use Rattle.otp_live.specs.declared.answers.DeleteRefusal.TheVariants as delete
-use Rattle.otp_live.specs.declared.answers.GetRefusal.{GetRefusal}
-use Rattle.otp_live.specs.declared.answers.GetRefusal.TheVariants as get
-use Rattle.otp_live.specs.declared.answers.RestartRefusal.{RestartRefusal}
-use Rattle.otp_live.specs.declared.answers.RestartRefusal.TheVariants as restart
-use Rattle.otp_live.specs.declared.answers.StartRefusal.{StartRefusal}
-use Rattle.otp_live.specs.declared.answers.StartRefusal.TheVariants as start
-use Rattle.otp_live.specs.declared.answers.TerminateRefusal.{TerminateRefusal}
-use Rattle.otp_live.specs.declared.answers.TerminateRefusal.TheVariants as terminate
-use Rattle.otp_live.specs.declared.caller.Answer.{Answer}
-use Rattle.otp_live.specs.declared.caller.Answer.TheVariants as answer
+use Rattle.otp_caller.specs.declared.answers.CallError.{CallError}
+use Rattle.otp_caller.specs.declared.answers.CallError.TheVariants as error
+use Rattle.otp_caller.specs.declared.answers.DeleteRefusal.{DeleteRefusal}
+use Rattle.otp_caller.specs.declared.answers.DeleteRefusal.TheVariants as delete
+use Rattle.otp_caller.specs.declared.answers.GetRefusal.{GetRefusal}
+use Rattle.otp_caller.specs.declared.answers.GetRefusal.TheVariants as get
+use Rattle.otp_caller.specs.declared.answers.RestartRefusal.{RestartRefusal}
+use Rattle.otp_caller.specs.declared.answers.RestartRefusal.TheVariants as restart
+use Rattle.otp_caller.specs.declared.answers.StartRefusal.{StartRefusal}
+use Rattle.otp_caller.specs.declared.answers.StartRefusal.TheVariants as start
+use Rattle.otp_caller.specs.declared.answers.TerminateRefusal.{TerminateRefusal}
+use Rattle.otp_caller.specs.declared.answers.TerminateRefusal.TheVariants as terminate
+use Rattle.otp_caller.specs.declared.caller.Answer.{Answer}
+use Rattle.otp_caller.specs.declared.caller.Answer.TheVariants as answer
 
 -- why restart_child/2 is refused
 abbrev pub restart_refusal : CallFault → Option RestartRefusal

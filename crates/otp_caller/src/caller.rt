@@ -167,10 +167,10 @@ impl<J: Drop, S: Drop> Caller<J, S> {
     }
 
     /// Adds supervisors to the tree while it runs, from any thread, where it was run with room for them
-    /// ([`run_growing`](crate::run_growing)). The answer is the number of the first, [`Body::Sup`] of the call that makes it
+    /// (`otp_live::run_growing`). The answer is the number of the first, [`Body::Sup`] of the call that makes it
     /// somebody's child ([`Caller::start_child`]): with a specification of type supervisor, and as much time to shut down as it wants.
     ///
-    /// The plans are as for [`System::add_tree`]; who has a draft has [`otp::grow`](../otp/adding/fn.grow.html) for it.
+    /// The plans are as for [`System::add_tree`]; who has a draft has `otp::grow` for it.
     ///
     /// # Errors
     ///
@@ -246,13 +246,13 @@ impl<J: Drop, S: Drop> Caller<J, S> {
         }
     }
 
-    /// Whether a hand is to do something for it.
-    pub(crate) fn is_wanted(&self) -> bool {
+    /// For whoever serves the tree: whether a hand is to do something for it.
+    pub fn is_wanted(&self) -> bool {
         self.mark.load(Ordering::SeqCst) == WANTED
     }
 
-    /// Whether the answer to its call is awaited.
-    pub(crate) fn is_sent(&self) -> bool {
+    /// For whoever serves the tree: whether the answer to its call is awaited.
+    pub fn is_sent(&self) -> bool {
         self.mark.load(Ordering::SeqCst) == SENT
     }
 
@@ -280,8 +280,8 @@ impl<J: Drop, S: Drop> Caller<J, S> {
         }
     }
 
-    /// Does what it wants. Where a call was sent it answers to which supervisor.
-    pub(crate) fn serve<N, K, R>(
+    /// For whoever serves the tree: does what it wants. Where a call was sent it answers to which supervisor, which is to be woken.
+    pub fn serve<N, K, R>(
         &self,
         rt: &R,
         alloc: Global,
@@ -345,8 +345,8 @@ impl<J: Drop, S: Drop> Caller<J, S> {
         drop(stage);
     }
 
-    /// Looks whether its call was answered, and tells it. Other hands look after this one.
-    pub(crate) fn collect<N, R>(&self, rt: &R, system: &System<N, J, S>)
+    /// For whoever serves the tree: looks whether its call was answered, and tells it. Other hands look after this one.
+    pub fn collect<N, R>(&self, rt: &R, system: &System<N, J, S>)
     where
         N: SupNaming,
         R: Wait,
@@ -366,8 +366,8 @@ impl<J: Drop, S: Drop> Caller<J, S> {
         self.own.ring(0);
     }
 
-    /// Notes that the run has ended, and wakes the caller.
-    pub(crate) fn close<R: Wait>(&self, rt: &R) {
+    /// For whoever serves the tree: notes that the run has ended, and wakes the caller. Each later call is answered [`Answer::Over`].
+    pub fn close<R: Wait>(&self, rt: &R) {
         let mut stage = self.stage.lock(rt);
         let next = match mem::replace(&mut *stage, Stage::Closed) {
             Stage::Wanted(wanted) => Stage::Last(undone(wanted)),

@@ -16,21 +16,21 @@ use std::sync::Wait;
 ///
 /// What lies under a lock is known by its type alone. A client there carries this name in its type's fact, so that it is known when
 /// it comes out again. A function that is generic in the name is called at [`Brand`]: that call picks it.
-pub(crate) trait ReachNaming {
+pub trait ReachNaming {
     ghost use Rattle.otp_hand.specs.Standings.{Reach};
 
     ghost reach: { Reach };
 }
 
 impl ReachNaming for Brand {
-    ghost use Rattle.otp_live.specs.Reaches.{no_reach};
+    ghost use Rattle.otp_caller.specs.Reaches.{no_reach};
 
     ghost reach = { no_reach };
 }
 
 /// The client as it lies under the lock: whatever is done by it, it reaches as far as when it was put there.
 #[derive(Drop)]
-pub(crate) struct Locked<N: WordsNaming + InboxNaming, K: ReachNaming, J: Drop, S: Drop> {
+pub struct Locked<N: WordsNaming + InboxNaming, K: ReachNaming, J: Drop, S: Drop> {
     client: Client<N, Body<J, S>>,
     of: PhantomData<K>,
 }
