@@ -1,7 +1,7 @@
 -- What a call does with a handle (own).
 use Rattle.std.specs.Prelude.{◌≡◌, ℕ, Option, None, Some, is_some}
 use Rattle.otp_driver.specs.declared.session.Session.{Session}
-use Rattle.otp_c.specs.declared.status.TheConstants.{OTP_CLOSED}
+use Rattle.otp_shapes.specs.declared.status.TheConstants.{OTP_CLOSED}
 
 -- an empty handle is told so
 abbrev pub IsTold : Option Session → ℕ → Type 0

@@ -1,12 +1,8 @@
 pub mod Held
 pub mod Handles
-pub mod Words
-pub mod Orders
-pub mod Shown
-pub mod AnswersShown
+pub mod Said
 pub mod Stands
 pub mod Nexts
-pub mod Statuses
 pub mod Told
 pub mod Opens
 pub mod Limits

@@ -1,51 +1,31 @@
 -- What is told to a tree, as the numbers and texts of a call say it, and what the call answers (own).
 use Rattle.std.specs.Prelude.{◌≡◌, ℕ, ◌<◌, ◌≤◌, ◌⊎◌, ⊤, false, List, Result, Ok, Err, IsTrue, max}
-use Rattle.otp_reason.specs.Texts.{is_lawful_text, text_of}
+use Rattle.otp_reason.specs.Texts.{is_lawful_text}
 use Rattle.otp_reason.specs.declared.note.Note.{Note}
 use Rattle.otp_reason.specs.declared.note.Note.TheVariants as note
-use Rattle.otp_reason.specs.declared.reason.Reason.{Reason}
-use Rattle.otp_reason.specs.declared.reason.Reason.TheVariants as reason
-use Rattle.otp_reason.specs.declared.text.Text.{Text}
 use Rattle.otp_rules.specs.declared.call.Call.{Call}
 use Rattle.otp_rules.specs.declared.call.Call.TheVariants as call
 use Rattle.otp_rules.specs.declared.event.Item.TheVariants as item
 use Rattle.otp_rules.specs.declared.event.Kind.TheVariants as event_kind
 use Rattle.otp_spec.specs.declared.limits.TheConstants.{MAX_READING}
-use Rattle.otp_driver.specs.declared.fault.DriveFault.{DriveFault}
+use Rattle.otp_driven.specs.declared.fault.DriveFault.{DriveFault}
 use Rattle.otp_driver.specs.declared.session.Session.{Session}
 use Rattle.otp_driver.specs.Driven.{Called, IsAsked, Occurs, RefusesCall, RefusesNote, is_nested, process_of}
-use Rattle.otp_c.specs.declared.status.TheConstants.{OTP_BAD_KIND, OTP_BAD_NAME, OTP_BAD_READING, OTP_BAD_TEXT, OTP_OK}
-use Rattle.otp_c.specs.declared.structs.CName.{CName}
-use Rattle.otp_c.specs.declared.structs.CSpec.{CSpec}
-use Rattle.otp_c.specs.declared.words.NoReason.{NoReason}
-use Rattle.otp_c.specs.declared.words.NoReason.TheVariants as unsaid
-use Rattle.otp_c.specs.Shown.{IsOutside, SaysName, SpecSaid}
-use Rattle.otp_c.specs.Statuses.{status_of}
-use Rattle.otp_c.specs.Words.{note_kind_number, reason_number}
+use Rattle.otp_shapes.specs.declared.status.TheConstants.{OTP_BAD_KIND, OTP_BAD_NAME, OTP_BAD_READING, OTP_BAD_TEXT, OTP_OK}
+use Rattle.otp_shapes.specs.declared.structs.CName.{CName}
+use Rattle.otp_shapes.specs.declared.structs.CSpec.{CSpec}
+use Rattle.otp_shapes.specs.declared.words.NoReason.{NoReason}
+use Rattle.otp_shapes.specs.declared.words.NoReason.TheVariants as unsaid
+use Rattle.otp_shapes.specs.Reasons.{HasText, ReasonSaid}
+use Rattle.otp_shapes.specs.Shown.{IsOutside, SaysName, SpecSaid}
+use Rattle.otp_shapes.specs.Statuses.{status_of}
+use Rattle.otp_shapes.specs.Words.{note_kind_number}
 
 -- the clock is read, if the reading is one
 abbrev pub Ticks : ℕ → ℕ → Session → Session → Type 0
 Ticks reading status old new =
     ((status ≡ OTP_OK) × (reading ≤ MAX_READING) × (new ≡ record old { driver = record old.driver { reading = max old.driver.reading reading } }))
     ⊎ ((status ≡ OTP_BAD_READING) × (MAX_READING < reading) × (new ≡ old))
-
--- the text of a reason that has one: 1 to 64 bytes
-abbrev pub SaysText : List ℕ → Text → Type 0
-SaysText bytes text = IsTrue (is_lawful_text bytes) × (text ≡ text_of bytes)
-
-abbrev pub SaysTextOf : List ℕ → Reason → Type 0
-SaysTextOf bytes (reason.ShutdownWith text) = SaysText bytes text
-SaysTextOf bytes (reason.Error text) = SaysText bytes text
-SaysTextOf bytes _ = ⊤
-
-abbrev pub HasText : ℕ → Type 0
-HasText number = (number ≡ 3) ⊎ (number ≡ 7)
-
--- the reason that a number and a text say, or why they say none
-abbrev pub ReasonSaid : ℕ → List ℕ → Result Reason NoReason → Type 0
-ReasonSaid number bytes (Ok why) = (number ≡ reason_number why) × SaysTextOf bytes why
-ReasonSaid number bytes (Err unsaid.Kind) = IsOutside 1 7 number
-ReasonSaid number bytes (Err unsaid.Text) = HasText number × ¬ (IsTrue (is_lawful_text bytes))
 
 abbrev pub HasReason : ℕ → Type 0
 HasReason kind = (kind ≡ 3) ⊎ (kind ≡ 4)

@@ -5,49 +5,41 @@
 
 ghost use Rattle.std.specs.Prelude.{◌≡◌, ◌<◌, None, Some, is_some, length, min, option_map, slice_get, true};
 ghost use Rattle.otp_driver.specs.Driven.{least_deadline};
-ghost use Rattle.otp_c.specs.AnswersShown.{Says, ShowsAnswer, ShowsLine, line_in, spec_in};
 ghost use Rattle.otp_c.specs.Handles.{IsKept, IsTold, OnTree, Reading};
 ghost use Rattle.otp_c.specs.Limits.{limit_of};
 ghost use Rattle.otp_c.specs.Nexts.{HandsOut, WritesNext};
 ghost use Rattle.otp_c.specs.Opens.{OpensIn, Reads, SaysOpen};
-ghost use Rattle.otp_c.specs.Shown.{ShowsSpec};
+ghost use Rattle.otp_c.specs.Said.{Says, line_in, spec_in};
 ghost use Rattle.otp_c.specs.Stands.{LooksAt, LooksAtChild, SaysChild, SaysRow, SaysSupervisor};
-ghost use Rattle.otp_c.specs.declared.status.TheConstants.{OTP_OK, OTP_OPEN};
+ghost use Rattle.otp_shapes.specs.AnswersShown.{ShowsAnswer, ShowsLine};
+ghost use Rattle.otp_shapes.specs.Shown.{ShowsSpec};
+ghost use Rattle.otp_shapes.specs.declared.status.TheConstants.{OTP_OK, OTP_OPEN};
 ghost use Rattle.otp_spec.specs.declared.limits.TheConstants.{MAX_TABLES};
 
-mod answer;
 mod calls;
-mod fault;
 mod handle;
 mod look;
-mod order;
 mod parts;
 mod room;
-mod spec;
-mod status;
-mod structs;
-mod words;
 
-use crate::answer::{answer_out, line_out};
-use crate::fault::fault_of;
 use crate::look::{row_out, supervisor_out};
-use crate::order::write_order;
-use crate::spec::spec_out;
-use crate::status::{
-    OTP_BAD_TREE, OTP_CLOSED, OTP_MEMORY, OTP_NO_SUPERVISOR, OTP_NONE, OTP_OK, OTP_OPEN, status_of,
-};
 pub use calls::{otp_call, otp_note, otp_start_child, otp_stop, otp_tick};
 pub use handle::Handle;
-use otp_driver::{Driver, KEPT_EVENTS, Link, Session, Supervisor};
+use otp_driven::{KEPT_EVENTS, Link, Supervisor};
+use otp_driver::{Driver, Session};
 use otp_file::{TableFault, TreeFault, read_located};
 use otp_reason::{NAME_SIZE, TEXT_SIZE};
 use otp_rules::{ChildLine, Reply};
+pub use otp_shapes::{
+    CAnswer, CChild, CFault, CLine, CName, COrder, CSpec, CSupervisor, CText, FAULT_SIZE,
+};
+use otp_shapes::{
+    OTP_BAD_TREE, OTP_CLOSED, OTP_MEMORY, OTP_NO_SUPERVISOR, OTP_NONE, OTP_OK, OTP_OPEN,
+    answer_out, fault_of, line_out, spec_out, status_of, write_order,
+};
 use otp_spec::{ChildSpec, MAX_CHILDREN, MAX_READING, MAX_TABLES};
 use otp_table::Row;
 use std::alloc::Global;
-pub use structs::{
-    CAnswer, CChild, CFault, CLine, CName, COrder, CSpec, CSupervisor, CText, FAULT_SIZE,
-};
 
 /// The tree that a file says, opened; or why it is refused, or nothing where there was no memory.
 fn session_of(alloc: Global, text: &[u8]) -> Result<Session, Option<TableFault>>

@@ -6,11 +6,11 @@ use Rattle.std.proofs.lemmas.Bool.{both_ways, le-ltb}
 use Rattle.std.proofs.lemmas.List.Sums.{position_or_len_is}
 use Rattle.otp_spec.specs.declared.child.ChildSpec.{ChildSpec}
 use Rattle.otp_table.specs.declared.row.Row.{Row}
-use Rattle.otp_driver.specs.declared.link.Link.{Link}
-use Rattle.otp_driver.specs.Links.{holds_process, is_child_of, is_link_near, is_link_of, is_link_under}
+use Rattle.otp_driven.specs.declared.link.Link.{Link}
+use Rattle.otp_driven.specs.Links.{holds_process, is_child_of, is_link_near, is_link_of, is_link_under}
 use Rattle.otp_driver.specs.Driven.{Driven, is_nested, is_nested_of}
-use Rattle.otp_driver.specs.Members.{Member, state_in}
-use Rattle.otp_driver.specs.Routes.{nested_of, row_at}
+use Rattle.otp_driven.specs.Members.{Member, row_at, state_in}
+use Rattle.otp_driver.specs.Routes.{nested_of}
 
 never : (b : Bool) → (b && false) ≡ false
 never true = refl

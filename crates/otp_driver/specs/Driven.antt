@@ -9,14 +9,14 @@ use Rattle.otp_rules.specs.declared.event.Kind.{Kind}
 use Rattle.otp_rules.specs.declared.event.Kind.TheVariants as kind
 use Rattle.otp_rules.specs.Next.{earlier, next_deadline, next_kind}
 use Rattle.otp_spec.specs.declared.limits.TheConstants.{MAX_READING}
-use Rattle.otp_driver.specs.declared.fault.DriveFault.{DriveFault}
-use Rattle.otp_driver.specs.declared.fault.DriveFault.TheVariants.{IsNested, NoSupervisor, Spent}
-use Rattle.otp_driver.specs.declared.link.Link.{Link}
+use Rattle.otp_driven.specs.declared.fault.DriveFault.{DriveFault}
+use Rattle.otp_driven.specs.declared.fault.DriveFault.TheVariants.{IsNested, NoSupervisor, Spent}
+use Rattle.otp_driven.specs.declared.link.Link.{Link}
 use Rattle.otp_driver.specs.declared.route.Route.{Route}
 use Rattle.otp_driver.specs.declared.route.Route.TheVariants.{Outside, Start, Stop, Tell}
-use Rattle.otp_driver.specs.Links.{asked, begun, holds_process, runs, told}
-use Rattle.otp_driver.specs.Members.{Happens, IsRefused, Member, has_order, passed, state_in}
-use Rattle.otp_driver.specs.Routes.{nested_of, route_of, row_at}
+use Rattle.otp_driven.specs.Links.{asked, begun, holds_process, runs, told}
+use Rattle.otp_driven.specs.Members.{Happens, IsRefused, Member, has_order, passed, row_at, state_in}
+use Rattle.otp_driver.specs.Routes.{nested_of, route_of}
 
 -- a tree: its supervisors by the numbers of their tables, whose child each is, the last reading of the clock, the last process
 -- number, and the last number of a call

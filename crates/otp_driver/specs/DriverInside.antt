@@ -3,7 +3,7 @@ use Rattle.std.specs.Prelude.{◌≡◌, ◌<◌, ◌≤◌, length}
 use Rattle.otp_spec.specs.declared.limits.TheConstants.{MAX_READING}
 use Rattle.otp_driver.specs.declared.driver.Driver.TheInside.{Inside}
 use Rattle.otp_driver.specs.Driven.{Driven}
-use Rattle.otp_driver.specs.Links.{HaveParents}
+use Rattle.otp_driven.specs.Links.{HaveParents}
 
 abbrev pub driven_of : Inside → Driven
 driven_of d = record { members = d.supervisors.items; links = d.links.items; reading = d.reading; last = d.last; calls = d.calls }

@@ -1,7 +1,3 @@
-pub mod Links
-pub mod Members
-pub mod Replies
-pub mod MemberInside
 pub mod Routes
 pub mod Orders
 pub mod Driven

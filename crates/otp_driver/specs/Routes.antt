@@ -10,19 +10,11 @@ use Rattle.otp_rules.specs.declared.ending.Ending.TheVariants as ending
 use Rattle.otp_rules.specs.declared.event.Effect.{Effect}
 use Rattle.otp_rules.specs.declared.event.Effect.TheVariants as effect
 use Rattle.otp_table.specs.declared.row.Row.{Row}
-use Rattle.otp_table.specs.Rows.{has_process, row_has}
-use Rattle.otp_driver.specs.declared.link.Link.{Link}
+use Rattle.otp_driven.specs.declared.link.Link.{Link}
 use Rattle.otp_driver.specs.declared.route.Route.{Route}
 use Rattle.otp_driver.specs.declared.route.Route.TheVariants.{Outside, Start, Stop, Tell}
-use Rattle.otp_driver.specs.Links.{holds_process, is_link_of, note_of_end}
-
-abbrev pub row_in : List Row → Option ℕ → Option Row
-row_in rows None = None
-row_in rows (Some place) = slice_get rows place
-
--- the child that has this process
-unfoldable pub row_at : List Row → ℕ → Option Row
-row_at rows number = row_in rows (position (row_has (has_process number)) rows)
+use Rattle.otp_driven.specs.Links.{holds_process, is_link_of, note_of_end}
+use Rattle.otp_driven.specs.Members.{row_at}
 
 -- the supervisor of the tree that this child of a supervisor is
 unfoldable pub nested_of : List Link → ℕ → Option Row → Option ℕ

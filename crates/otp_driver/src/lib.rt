@@ -5,20 +5,13 @@
 #![tactic(auto)]
 
 pub mod driver;
-pub mod fault;
-pub mod limits;
-pub mod link;
 pub mod order;
 pub mod planting;
 pub mod route;
 pub mod session;
-pub mod supervisor;
 
 pub use driver::Driver;
-pub use fault::DriveFault;
-pub use limits::KEPT_EVENTS;
-pub use link::Link;
 pub use order::{Order, Task, What};
+pub use otp_driven::{DriveFault, KEPT_EVENTS, Link, Supervisor};
 pub use route::{Route, ending_in};
 pub use session::Session;
-pub use supervisor::Supervisor;

@@ -2,11 +2,11 @@
 
 ghost use Rattle.std.specs.Prelude.{◌≡◌, IsTrue, option_map, slice_get};
 ghost use Rattle.otp_driver.specs.declared.route.Route.TheVariants.{Outside};
-ghost use Rattle.otp_driver.specs.Routes.{end_route, ending_in, nested_of, ready_route, route_of, row_at, start_route, stop_route};
-ghost use Rattle.otp_driver.specs.Members.{state_in};
+ghost use Rattle.otp_driver.specs.Routes.{end_route, ending_in, nested_of, ready_route, route_of, start_route, stop_route};
+ghost use Rattle.otp_driven.specs.Members.{row_at, state_in};
 
-use crate::link::{Link, find_process, find_row, has_nested, note_of_end};
-use crate::supervisor::Supervisor;
+use otp_driven::link::{find_process, find_row, has_nested, note_of_end};
+use otp_driven::{Link, Supervisor};
 use otp_reason::{Note, Reason};
 use otp_rules::{Cause, Effect, Ending};
 use otp_table::Row;

@@ -1,6 +1,5 @@
 use Rattle.std.proofs.Common.{◌∙◌, sym}
-use Rattle.otp_driver.specs.Members.{state_in}
-use Rattle.otp_driver.specs.Routes.{row_at}
+use Rattle.otp_driven.specs.Members.{row_at, state_in}
 use Rattle.otp_driver.proofs.Under.{none_nested}
 use Rattle.otp_driver.proofs.route.nested_at.Goals as goal
 

@@ -1,0 +1,4 @@
+pub mod Links
+pub mod Members
+pub mod Replies
+pub mod MemberInside

@@ -1,0 +1,53 @@
+//! Why something is not taken.
+ghost use Rattle.std.specs.Prelude.{◌≡◌};
+ghost use Rattle.otp_driven.specs.Members.{fault_of};
+
+use otp_core::EventFault;
+use std::alloc::AllocError;
+use thiserror::Error;
+
+/// Why something is not taken. The tree is then as it was.
+#[derive(Clone, Copy, Debug, PartialEq, Eq, Error)]
+pub enum DriveFault {
+    /// E0: memory was refused. The same may be told again.
+    #[error("out of memory")]
+    OutOfMemory,
+    /// Orders of this supervisor wait to be taken, and it keeps as many events and answers as it may. It goes on once they are
+    /// taken.
+    #[error("orders wait to be taken")]
+    OrdersWait,
+    /// E8: there were as many events, or numbers of processes, as there may be in all. It never goes on.
+    #[error("history full")]
+    Spent,
+    /// The tree has no supervisor of this number.
+    #[error("there is no supervisor of this number")]
+    NoSupervisor,
+    /// The process is a supervisor of the tree, of which nobody tells anything from outside.
+    #[error("the process is a supervisor of the tree")]
+    IsNested,
+    /// The reading of the clock is above [`MAX_READING`](otp_spec::MAX_READING).
+    #[error("the clock's reading is too large")]
+    BadReading,
+}
+
+impl From<AllocError> for DriveFault {
+    ghost use Rattle.std.specs.Prelude.{◌≡◌};
+    ghost use Rattle.otp_driven.specs.declared.fault.DriveFault.TheVariants.{OutOfMemory};
+
+    ghost from_gives = { λ _ fault. fault ≡ OutOfMemory };
+
+    fn from(_error: AllocError) -> Self {
+        DriveFault::OutOfMemory
+    }
+}
+
+/// Why a core takes no event, as the driver says it.
+pub(crate) fn fault_of(cause: EventFault) -> DriveFault
+    ensures { result ≡ fault_of cause }
+{
+    match cause {
+        EventFault::OutOfMemory => DriveFault::OutOfMemory,
+        EventFault::OrdersWait => DriveFault::OrdersWait,
+        EventFault::HistoryFull => DriveFault::Spent,
+    }
+}

@@ -1,0 +1,317 @@
+//! A supervisor of the tree: its core, and how many of its orders were taken.
+
+ghost use Rattle.std.specs.Prelude.{◌≡◌, ℕ, All, ◌≤◌, ◌<◌, ◌^◌, ◌-◌, ◌⊎◌, [], false, true, IsTrue, Some, is_some, min, slice_get, length, nat_lt, option_map, IfErr, IfOk, IfSome, OnOk, OnErr};
+ghost use Rattle.otp_core.specs.Full.{is_full};
+ghost use Rattle.otp_core.specs.Happened.{HasNoRoom as CoreHasNoRoom, IsEventFault, cut_before};
+ghost use Rattle.otp_table.specs.Rows.{has_process};
+ghost use Rattle.otp_rules.specs.Counts.{counts_of};
+ghost use Rattle.otp_rules.specs.Ends.{last_stamps};
+ghost use Rattle.otp_rules.specs.Next.{next_deadline, next_kind};
+ghost use Rattle.otp_rules.specs.Run.{empty_state};
+ghost use Rattle.otp_rules.specs.State.{is_over};
+ghost use Rattle.otp_spec.specs.declared.limits.TheConstants.{MAX_READING};
+ghost use Rattle.otp_driven.specs.Members.{CoreHappens, Happens, HasNoRoom, IsMany, IsRefused, has_order, passed, row_at, state_in, unopened};
+ghost use Rattle.otp_driven.specs.Replies.{AreAnswered, IsKept, IsReplyIn};
+ghost use Rattle.otp_driven.specs.declared.fault.DriveFault.TheVariants.{OutOfMemory};
+ghost use Rattle.otp_rules.specs.Needs.{numbers_of};
+ghost use Rattle.otp_rules.specs.declared.event.Effect.TheVariants as effect;
+
+use crate::fault::{DriveFault, fault_of};
+use crate::limits::KEPT_EVENTS;
+use otp_core::{Core, Counter, EventFault, ReplyAnswer, laws};
+use otp_rules::{CountsNow, Effect, Kind, Phase, Reply};
+use otp_spec::{MAX_READING, SupFlags, SupSpec};
+use otp_table::Row;
+use std::alloc::Global;
+use std::collections::VecDeque;
+use std::marker::Model;
+
+/// A supervisor with its core. Contracts see all its events, the orders that are not forgotten yet, and how many of them,
+/// the first, were taken.
+#[derive(Drop)]
+pub struct Supervisor {
+    flags: SupFlags,
+    core: Core,
+    taken: usize,
+    /// The place of the child that was looked for last. Nothing that contracts see depends on it.
+    seen: usize,
+}
+
+impl Model for Supervisor {
+    ghost use Rattle.otp_driven.specs.Members.{Member};
+
+    ghost Value = { Member };
+
+    ghost use Rattle.otp_driven.specs.MemberInside.{IsMember, member_of};
+
+    ghost view = { member_of };
+
+    ghost invariant = { IsMember };
+}
+
+/// Takes the memory of a core's next event, and makes room for it.
+fn make_ready(core: &mut Core) -> Result<(), EventFault>
+    ensures core { core.new ≡ record core.old { cut = core.new.cut; prepared = core.new.prepared } }
+    ensures cut { OnOk result (core.new.cut ≡ cut_before KEPT_EVENTS core.old) }
+    ensures kept { OnErr result (core.new.cut ≡ core.old.cut) }
+    ensures prepared { OnOk result (core.new.prepared ≡ true) }
+    ensures room { OnOk result (is_full core.new ≡ false) }
+    ensures why { IfErr result (IsEventFault core.old) }
+{
+    core.prepare()?;
+    make_room_if_cleared(core)?;
+    Ok(())
+}
+
+/// Makes room where the effects were cleared. Where they weren't there must be room, since a cut drops the answers that they
+/// tell of.
+fn make_room_if_cleared(core: &mut Core) -> Result<(), EventFault>
+    ensures core { core.new ≡ record core.old { cut = core.new.cut } }
+    ensures cut { OnOk result (core.new.cut ≡ cut_before KEPT_EVENTS core.old) }
+    ensures err { OnErr result (core.new ≡ core.old) }
+    ensures room { OnOk result (is_full core.new ≡ false) }
+    ensures why { IfErr result (CoreHasNoRoom core.old) }
+{
+    if core.effects().is_empty() {
+        core.make_room(KEPT_EVENTS)?;
+        return Ok(());
+    }
+    if core.is_full() {
+        Err(EventFault::OrdersWait)
+    } else {
+        Ok(())
+    }
+}
+
+/// The row at this place, if it has this process.
+fn row_with(rows: &[Row], place: usize, number: u64) -> Option<&Row>
+    ensures { IfSome result (λ row. (slice_get rows.now place ≡ Some row.now) × (has_process number row.now.state ≡ true)) }
+{
+    let row = rows.get(place)?;
+    if row.state.has_process(number) {
+        Some(row)
+    } else {
+        None
+    }
+}
+
+/// Something happens to a core, of which only the last events are kept while no order waits. The answer is the last process
+/// number then. It is [`Core::happen`] by its parts: so the event, which is large, is not copied.
+fn happen(core: &mut Core, reading: u64, kind: &Kind, last: u64) -> Result<u64, DriveFault>
+    requires reading { reading ≤ MAX_READING }
+    requires last { last < MAX_READING }
+    requires numbers { (n : ℕ) → last < n → All (λ m. m < n) (numbers_of core.old.history) }
+    ensures ok { IfOk result (λ after. CoreHappens reading last kind.now core.old core.new after) }
+    ensures err { OnErr result (core.new ≡ record core.old { prepared = core.new.prepared }) }
+    ensures why { IfErr result (λ why. (why ≡ OutOfMemory) ⊎ HasNoRoom core.old.base core.old.history core.old.effects why) }
+    // What a cut drops is no answer that an order tells of.
+    ensures answered { AreAnswered core.old → AreAnswered core.new }
+{
+    laws::answers_are_told();
+    laws::cuts_agree();
+    laws::runs_are_joined();
+    if let Err(cause) = make_ready(core) {
+        return Err(fault_of(cause));
+    }
+    let mut numbers = Counter { last };
+    let _ = core.step_with(reading, kind, &mut numbers);
+    Ok(numbers.last)
+}
+
+impl Supervisor {
+    /// A supervisor that was never opened.
+    pub fn new(alloc: Global, supervisor: SupSpec) -> Self
+        ensures { result ≡ unopened supervisor.flags supervisor.specs }
+    {
+        Supervisor {
+            flags: supervisor.flags(),
+            core: Core::of(alloc, supervisor),
+            taken: 0,
+            seen: 0,
+        }
+    }
+
+    /// Something happens at this reading of the clock. A child that is started gets the next number after `last`; the answer
+    /// is the last number then.
+    ///
+    /// # Errors
+    ///
+    /// [`DriveFault::OutOfMemory`], [`DriveFault::OrdersWait`], [`DriveFault::Spent`].
+    pub fn happen(&mut self, reading: u64, kind: &Kind, last: u64) -> Result<u64, DriveFault>
+        requires { reading ≤ MAX_READING }
+        ensures ok { IfOk result (λ after. Happens reading last kind.now self.old self.new after) }
+        ensures err { OnErr result (self.new ≡ self.old) }
+        ensures why { IfErr result (λ why. IsRefused last self.old why) }
+    {
+        if last >= MAX_READING || last < self.core.last_number() {
+            return Err(DriveFault::Spent);
+        }
+        happen(&mut self.core, reading, kind, last)
+    }
+
+    /// The next order that was not taken.
+    pub fn order(&self) -> Option<&Effect>
+        ensures { option_map (λ o. o.now) result ≡ slice_get self.now.effects self.now.taken }
+    {
+        self.core.effects().get(self.taken)
+    }
+
+    /// That order is taken. After the last one all are forgotten.
+    #[tactic(auto, unfolding(crate::specs::Members::passed))]
+    pub fn pass(&mut self)
+        ensures { self.new ≡ passed self.old }
+    {
+        let next = self.taken.saturating_add(1);
+        if next < self.core.effects().len() {
+            self.taken = next;
+        } else {
+            self.core.clear_effects();
+            self.taken = 0;
+        }
+    }
+
+    /// Whether an order was not taken.
+    pub fn has_order(&self) -> bool
+        ensures { result ≡ has_order self.now }
+    {
+        self.taken < self.core.effects().len()
+    }
+
+    /// What it was opened with, the children aside.
+    pub fn flags(&self) -> SupFlags
+        ensures { result ≡ self.now.base.flags }
+    {
+        self.flags
+    }
+
+    /// The children in start order.
+    pub fn rows(&self) -> &[Row]
+        ensures { result.now ≡ (state_in self.now).rows }
+    {
+        self.core.rows()
+    }
+
+    /// The child that has this process. Where it isn't the one that was looked for last, the core finds it by the number.
+    #[tactic(auto, unfolding(crate::specs::Members::row_at))]
+    pub fn child(&self, number: u64) -> Option<&Row>
+        ensures { option_map (λ r. r.now) result ≡ row_at (state_in self.now).rows number }
+    {
+        if let Some(row) = self.seen_child(number) {
+            return Some(row);
+        }
+        let place = self.core.find_process(number)?;
+        self.core.rows().get(place)
+    }
+
+    /// The child that was looked for last, if it has this process: no other has it.
+    fn seen_child(&self, number: u64) -> Option<&Row>
+        ensures { IfSome result (λ row. row_at (state_in self.now).rows number ≡ Some row.now) }
+    {
+        laws::processes_are_owned();
+        let _lawful = self.core.history();
+        let _last = self.core.last_number();
+        match row_with(self.core.rows(), self.seen, number) {
+            Some(row) => Some(row),
+            None => None,
+        }
+    }
+
+    /// Looks for the child that has this process, so that it is found at once from then on.
+    pub fn look_for(&mut self, number: u64)
+        ensures { self.new ≡ self.old }
+    {
+        if self.seen_child(number).is_some() {
+            return;
+        }
+        if let Some(place) = self.core.find_process(number) {
+            self.seen = place;
+        }
+    }
+
+    /// Whether it runs, and how it ended.
+    pub fn phase(&self) -> Phase
+        ensures { result ≡ (state_in self.now).phase }
+    {
+        self.core.phase()
+    }
+
+    /// Whether it was never opened, or has ended.
+    pub fn has_ended(&self) -> bool
+        ensures { result ≡ is_over (state_in self.now).phase }
+    {
+        self.core.has_ended()
+    }
+
+    /// Whether children are being stopped or started.
+    pub fn has_open_work(&self) -> bool
+        ensures { result ≡ is_some (state_in self.now).follows }
+    {
+        self.core.has_open_work()
+    }
+
+    /// What count_children would answer now.
+    pub fn counts(&self) -> CountsNow
+        ensures { result ≡ counts_of (state_in self.now) }
+    {
+        self.core.counts()
+    }
+
+    /// How many restarts there were since the last opening: exactly, below 2^64.
+    pub fn count_restarts(&self) -> u64
+        ensures { result ≡ min (length (state_in self.now).stamps) (2 ^ 64 - 1) }
+    {
+        self.core.count_restarts()
+    }
+
+    /// The times in milliseconds of the last restarts since then: all of them, or one more than the intensity.
+    pub fn kept_restarts(&self) -> &VecDeque<u64>
+        ensures { result.now.items ≡ last_stamps (state_in self.now).flags.intensity (state_in self.now).stamps }
+    {
+        self.core.kept_restarts()
+    }
+
+    /// What is known of the answer to the call with this number. It is kept until the next event comes after the order that
+    /// tells of it was taken.
+    pub fn reply(&self, call: u64) -> ReplyAnswer<&Reply>
+        ensures last { IsReplyIn (λ r. r.now) call (state_in self.now).replies result }
+        ensures kept { slice_get self.now.effects self.now.taken ≡ Some (effect.Reply call) → IsKept result }
+    {
+        laws::cuts_agree();
+        laws::runs_are_joined();
+        self.core.reply(call)
+    }
+
+    /// What it does next by itself at this reading of the clock.
+    pub fn next_kind(&self, reading: u64, is_stopping: bool) -> Option<Kind>
+        ensures { result ≡ next_kind (state_in self.now) reading is_stopping }
+    {
+        self.core.next_kind(reading, is_stopping)
+    }
+
+    /// Whether it does something next by itself at this reading of the clock.
+    #[tactic(auto, unfolding(otp_rules::specs::Next::next_kind, otp_rules::specs::Next::idle_kind))]
+    pub fn has_next(&self, reading: u64, is_stopping: bool) -> bool
+        ensures { result ≡ is_some (next_kind (state_in self.now) reading is_stopping) }
+    {
+        if self.core.is_due(reading) {
+            return true;
+        }
+        if self.core.has_open_work() {
+            return false;
+        }
+        if is_stopping && !self.core.has_ended() {
+            return true;
+        }
+        if self.core.has_waiting() {
+            return true;
+        }
+        false
+    }
+
+    /// The least deadline in milliseconds of the children that were told to shut down.
+    pub fn next_deadline(&self) -> Option<u64>
+        ensures { result ≡ next_deadline (state_in self.now).rows }
+    {
+        self.core.next_deadline()
+    }
+}
