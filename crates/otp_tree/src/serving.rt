@@ -128,7 +128,6 @@ impl<N: SupNaming, J: Job, S: Subsystem> System<N, J, S> {
         let Some(sup) = self.sup(table) else {
             return;
         };
-        let begun = hand.runner.scheduler.share().begun;
         let answer = hand.turn_nested(rt, &self.shared.words, sup, number, reading, told);
         if answer == Ok(TurnAnswer::Quiet) {
             let due = sup.next_deadline(rt);
@@ -137,7 +136,7 @@ impl<N: SupNaming, J: Job, S: Subsystem> System<N, J, S> {
             return;
         }
         listener.served(table);
-        if hand.runner.scheduler.share().begun == begun {
+        if hand.runner.around.take_posted() {
             hand.runner.waiting.notice();
         }
     }

@@ -8,6 +8,7 @@ use otp_wake::Post;
 use std::alloc::AllocError;
 use std::marker::Model;
 use std::sync::Arc;
+use std::sync::atomic::{AtomicU64, Ordering};
 
 /// After a try at all other deques that gave nothing, so many looks into the hand's own come before the next. A hand with nothing
 /// to do that tried in each turn would take the one process that has something to do from hand to hand, and its memory with it.
@@ -33,6 +34,8 @@ pub struct Around {
     passed_by: u32,
     // Whether jobs that were told something have their turns by way of the deque.
     is_crowd: bool,
+    // 1 from when a supervisor of this hand posted a signal until that was asked for.
+    posted: AtomicU64,
 }
 
 impl Model for Around {
@@ -54,6 +57,7 @@ impl Around {
             stock: 0,
             passed_by: 0,
             is_crowd: false,
+            posted: AtomicU64::new(0),
         }
     }
 
@@ -164,8 +168,19 @@ impl Around {
         }
     }
 
-    /// Wakes the process that has this slot, in whichever hand it waits.
+    /// Whether a supervisor of this hand posted a signal since this was asked last: only then may a process that waits here have been
+    /// told something in its turn.
+    pub fn take_posted(&mut self) -> bool
+        ensures { self.new ≡ self.old }
+    {
+        let posted = self.posted.load(Ordering::Relaxed);
+        self.posted.store(0, Ordering::Relaxed);
+        posted != 0
+    }
+
+    /// Wakes the process that has this slot, for which a signal was posted, in whichever hand it waits.
     pub fn wake(&self, slot: usize) {
+        self.posted.store(1, Ordering::Relaxed);
         if let Some(post) = &self.post {
             post.wake(slot);
         }
