@@ -220,3 +220,15 @@ fn a_search_in_vain_is_made_again_in_time(rt: HostRuntime) {
     assert!(rt; !around.is_worth_a_search(None, 7));
     drop(around);
 }
+
+// That a signal was posted is told once, to whoever asks first.
+#[test]
+fn a_posted_signal_is_told_once(rt: HostRuntime) {
+    let mut around = Around::new();
+    assert!(rt; !around.take_posted());
+    around.wake(3);
+    around.wake(4);
+    assert!(rt; around.take_posted());
+    assert!(rt; !around.take_posted());
+    drop(around);
+}
