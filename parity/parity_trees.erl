@@ -62,10 +62,12 @@ numbers({T, _, _, _, _, Children}) ->
 
 rest() -> rest(lists:sort(ets:tab2list(told))).
 
+%% On a busy machine a process may still wait for its turn meanwhile: then the tree isn't at rest.
 rest(Told) ->
     timer:sleep(?REST),
+    Ready = erlang:statistics(total_run_queue_lengths_all),
     case lists:sort(ets:tab2list(told)) of
-        Told -> ok;
+        Told when Ready =:= 0 -> ok;
         Now -> rest(Now)
     end.
 
