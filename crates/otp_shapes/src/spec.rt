@@ -80,19 +80,19 @@ fn known<T: Copy>(word: Option<T>) -> Result<T, u32>
     }
 }
 
-fn modules_in(modules: u32, module: &[CName; 4]) -> Result<Modules, u32>
-    ensures { ModulesSaid modules module.now result }
+fn modules_in(modules: u32, names: &[CName; 4]) -> Result<Modules, u32>
+    ensures { ModulesSaid modules names.now result }
 {
     match modules {
         0 => Ok(Modules::None),
-        1 => Ok(Modules::One(named(&module[0])?)),
-        2 => Ok(Modules::Two(named(&module[0])?, named(&module[1])?)),
-        3 => Ok(Modules::Three(named(&module[0])?, named(&module[1])?, named(&module[2])?)),
+        1 => Ok(Modules::One(named(&names[0])?)),
+        2 => Ok(Modules::Two(named(&names[0])?, named(&names[1])?)),
+        3 => Ok(Modules::Three(named(&names[0])?, named(&names[1])?, named(&names[2])?)),
         4 => Ok(Modules::Four(
-            named(&module[0])?,
-            named(&module[1])?,
-            named(&module[2])?,
-            named(&module[3])?,
+            named(&names[0])?,
+            named(&names[1])?,
+            named(&names[2])?,
+            named(&names[3])?,
         )),
         DYNAMIC => Ok(Modules::Dynamic),
         _ => Err(OTP_BAD_KIND),
