@@ -1,8 +1,8 @@
 -- Where one body at most passes a test, the one that is seen to pass is the first.
-use Rattle.std.proofs.Common.{◌≡◌, ℕ, zero, suc, ◌+◌, ◌<◌, ◌≤◌, List, [], ◌∷◌, ◌∙◌, Some, Bool, true, false, ap, arith, cond, get_or, length, refl}
+use Rattle.std.proofs.Common.{◌≡◌, ℕ, zero, suc, ◌+◌, ◌<◌, ◌≤◌, List, [], ◌∷◌, ◌∙◌, Bool, true, false, ap, arith, cond, get_or, length, refl}
 use Rattle.std.specs.Prelude.{count_by, slice_set}
 use Rattle.std.proofs.lemmas.List.Sums.{sum_by-cons, sum_by-remove}
-use Rattle.otp_bodies.specs.Bodies.{put_home, is_away}
+use Rattle.otp_bodies.specs.Bodies.{put_home}
 use Rattle.otp_bodies.specs.declared.bodies.Kept.{Kept}
 use Rattle.otp_bodies.specs.declared.bodies.Place.TheVariants as placed
 use Rattle.otp_bodies.proofs.Keeping.{IsFirstAt, put_home-behind}

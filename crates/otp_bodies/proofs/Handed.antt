@@ -3,7 +3,6 @@ use Rattle.std.proofs.Common.{◌≡◌, ℕ, zero, suc, ◌+◌, ◌≤◌, [],
 use Rattle.std.specs.Prelude.{◌==◌, false}
 use Rattle.std.proofs.lemmas.Bool.{ne_eqb}
 use Rattle.otp_bodies.specs.Bodies.{count_given, handed_in, is_spec}
-use Rattle.otp_bodies.specs.declared.bodies.Kept.{Kept}
 use Rattle.otp_bodies.specs.declared.bodies.Origin.TheVariants as origin
 use Rattle.otp_bodies.specs.declared.bodies.Place.TheVariants as place
 use Rattle.otp_bodies.proofs.Once.{count_put}

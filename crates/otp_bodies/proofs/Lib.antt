@@ -7,3 +7,4 @@ pub mod Stored
 pub mod Few
 pub mod OnlyLoose
 pub mod Handed
+pub mod There

@@ -29,7 +29,7 @@ stays rows any placed.Waiting h = absurd (false≢true (sym h))
 stays rows any placed.Free h = refl
 stays rows any (placed.Away k) h = refl
 
-same_head : (rows : List Row) (any : Bool) (b : Kept) (bs : List Kept) → place_among rows any b.place ≡ b.place → settled rows any bs ≡ bs → settled rows any (b ∷ bs) ≡ b ∷ bs
+pub same_head : (rows : List Row) (any : Bool) (b : Kept) (bs : List Kept) → place_among rows any b.place ≡ b.place → settled rows any bs ≡ bs → settled rows any (b ∷ bs) ≡ b ∷ bs
 same_head rows any b bs head tail =
     ap (λ (p : Place). record b { place = p } ∷ settled rows any bs) head ∙ ap (λ (l : List Kept). b ∷ l) tail
 

@@ -1,11 +1,10 @@
 -- The bodies of a supervisor's children: whose each is, and where (own). A body is what a child runs; it goes with the
 -- child's process, and comes home with the note of that process's end.
-use Rattle.std.specs.Prelude.{◌≡◌, ⊤, ℕ, ◌==◌, ◌<◌, ◌≤◌, Bool, true, false, not, ◌&&◌, List, [], ◌∷◌, ◌++◌, Option, Some, None, is_some, length, filter_map, map, slice_get, slice_set, if◌then◌else◌, count_by, ◌+◌}
+use Rattle.std.specs.Prelude.{◌≡◌, ⊤, ℕ, ◌==◌, ◌<◌, ◌≤◌, Bool, true, false, not, ◌&&◌, List, [], ◌∷◌, ◌++◌, Option, Some, None, is_some, length, filter_map, map, slice_get, slice_set, if◌then◌else◌, count_by}
 use Rattle.std.specs.List.{list_any}
 use Prim.Native.Nat.{zero, suc}
 use Rattle.otp_table.specs.declared.row.Row.{Row}
 use Rattle.otp_table.specs.Rows.{has_slot}
-use Rattle.otp_rules.specs.declared.event.Waiting.{Waiting}
 use Rattle.otp_bodies.specs.declared.bodies.Kept.{Kept}
 use Rattle.otp_bodies.specs.declared.bodies.Origin.{Origin}
 use Rattle.otp_bodies.specs.declared.bodies.Origin.TheVariants as origin
@@ -162,6 +161,10 @@ place_among rows is_any_waiting (place.Away k) = place.Away k
 
 abbrev pub settled : List Row → Bool → List Kept → List Kept
 settled rows is_any_waiting kept = map (λ (b : Kept). record b { place = place_among rows is_any_waiting b.place }) kept
+
+-- each child whose body is at home is there: a row has its slot
+abbrev pub AreThere : List Row → List Kept → Type 0
+AreThere rows kept = (slot : ℕ) → has_body slot kept ≡ true → list_any (has_slot slot) rows ≡ true
 
 abbrev pub opened_place : List Row → Origin → Place → Place
 opened_place rows (origin.Spec k) (place.Home j) = place.Home j

@@ -1,6 +1,6 @@
 -- The bodies that an event may let go: those at home, and those that wait with their calls (own). Mostly there is one.
 use Rattle.std.specs.Prelude.{◌≤◌, ⊤, ℕ, Bool, true, false, cond, List, Option, None, Some, count_by, get_or}
-use Rattle.otp_bodies.specs.Bodies.{stray}
+use Rattle.otp_bodies.specs.Bodies.{is_waiting_place, stray}
 use Rattle.otp_bodies.specs.declared.bodies.Kept.{Kept}
 use Rattle.otp_bodies.specs.declared.bodies.Place.{Place}
 use Rattle.otp_bodies.specs.declared.bodies.Place.TheVariants as place
@@ -14,6 +14,10 @@ is_loose_place (place.Away _) = false
 -- the body is at home, or waits with its call
 abbrev pub is_loose : Kept → Bool
 is_loose b = is_loose_place b.place
+
+-- the body waits with its call
+abbrev pub is_with_call : Kept → Bool
+is_with_call b = is_waiting_place b.place
 
 -- how many bodies are
 abbrev pub count_loose : List Kept → ℕ

@@ -8,7 +8,7 @@ ghost use Rattle.otp_driver.specs.Driven.{least_deadline};
 ghost use Rattle.otp_c.specs.Handles.{IsKept, IsTold, OnTree, Reading};
 ghost use Rattle.otp_c.specs.Limits.{limit_of};
 ghost use Rattle.otp_c.specs.Nexts.{HandsOut, WritesNext};
-ghost use Rattle.otp_c.specs.Opens.{OpensIn, Reads, SaysOpen};
+ghost use Rattle.otp_c.specs.Opens.{OpensIn, Reads};
 ghost use Rattle.otp_c.specs.Said.{Says, line_in, spec_in};
 ghost use Rattle.otp_c.specs.Stands.{LooksAt, LooksAtChild, SaysChild, SaysRow, SaysSupervisor};
 ghost use Rattle.otp_shapes.specs.AnswersShown.{ShowsAnswer, ShowsLine};

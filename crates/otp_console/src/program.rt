@@ -1,6 +1,6 @@
 //! The program but for the system under it: what it does for which words, and what it tells on which stream.
 
-ghost use Rattle.std.specs.Prelude.{ℕ, List, Option, ◌≡◌, ◌≤◌, ◌⊎◌, ◌||◌, false};
+ghost use Rattle.std.specs.Prelude.{◌≡◌, ◌≤◌, ◌⊎◌, ◌||◌, false};
 ghost use Rattle.otp_sim.specs.Devices.{Readable, devices};
 ghost use Rattle.otp_console.specs.Runs.{Answers, Checks, ChecksAll, Does, IsObeyed, IsProgramRun, RunsTree, ServesTree, Simulates, draws};
 ghost use Rattle.otp_ending.specs.Told.{TellsFirst};

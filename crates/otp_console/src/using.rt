@@ -1,6 +1,6 @@
 //! What one tree file is used for: how a question about it, and the other files that it needs, come to an end of the program.
 
-ghost use Rattle.std.specs.Prelude.{ℕ, List, Option, ◌≡◌, ◌≤◌, false};
+ghost use Rattle.std.specs.Prelude.{Option, ◌≤◌, false};
 ghost use Rattle.otp_sim.specs.Devices.{Readable, devices};
 ghost use Rattle.otp_console.specs.Used.{IsComparedWith, IsRead, IsReplayOf, IsRunPaged, IsTrialFor, IsTrialOf, IsUsed, Uses};
 ghost use Rattle.otp_ending.specs.Told.{TellsFirst};

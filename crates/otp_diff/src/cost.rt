@@ -1,8 +1,8 @@
 //! What differs in what failures cost.
 
 ghost use Rattle.std.specs.Prelude.{◌≡◌, ◌++◌, IfOk, OnOk, codes};
-ghost use Rattle.std.specs.List.{flat_map, list_any};
-ghost use Rattle.otp_folds.specs.Table.{alike_text, root_text};
+ghost use Rattle.std.specs.List.{list_any};
+ghost use Rattle.otp_folds.specs.Table.{alike_text};
 ghost use Rattle.otp_folds.specs.Words.{burst_text, interval_text};
 ghost use Rattle.otp_diff.specs.Changes.{change_text};
 ghost use Rattle.otp_diff.specs.Costs.{affected_text, common, costs_text, counted_text, crash_title, ended_text, is_name, name_if, named_text, numbers_text, row_text, rows_if, rows_text, survived_text};

@@ -1,6 +1,6 @@
 //! What differs in the supervisors of two trees.
 
-ghost use Rattle.std.specs.Prelude.{◌≡◌, ◌<◌, ◌++◌, IfSome, OnOk, codes, is_some, length, position, slice_get};
+ghost use Rattle.std.specs.Prelude.{◌≡◌, ◌<◌, ◌++◌, IfSome, OnOk, is_some, length, position};
 ghost use Rattle.std.specs.List.{flat_map};
 ghost use Rattle.otp_folds.specs.Groups.{below};
 ghost use Rattle.otp_limits.specs.Falls.{supervisor_path};

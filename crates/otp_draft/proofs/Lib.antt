@@ -1,3 +1,5 @@
 pub mod Walks
 pub mod Nears
 pub mod Led
+pub mod Growths
+pub mod Fits

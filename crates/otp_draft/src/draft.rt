@@ -15,7 +15,7 @@ use crate::child::{Child, Runs};
 use crate::fault::{DraftFault, Refused};
 use crate::limits::MAX_DEPTH;
 use crate::paths::{Nested, TreePath, find_path, paths_of};
-use crate::plan::{PlannedTable, TreePlan};
+use crate::plan::{PlannedTable, TablePlan, TreePlan};
 use otp_bridge::{BoxedSubsystem, Bridge};
 use otp_job::{Body, TableNo};
 use otp_spec::{
@@ -89,14 +89,77 @@ fn kind_fault(is_simple: bool, is_template: bool) -> Option<DraftFault>
     }
 }
 
+/// Puts one, and then all of a list, behind another, which has room.
+fn put_behind<T: Drop>(list: &mut Vec<T>, first: T, more: Vec<T>)
+    requires { length list.old.items + 1 + length more.items ≤ vec_capacity list.old }
+    ensures { list.new.items ≡ list.old.items ++ first ∷ more.items }
+{
+    list.push_reserved(first);
+    put_all(list, more);
+}
+
 /// Puts all of a list behind another, which has room.
-fn put_behind<T: Drop>(list: &mut Vec<T>, more: Vec<T>)
+fn put_all<T: Drop>(list: &mut Vec<T>, more: Vec<T>)
     requires { length list.old.items + length more.items ≤ vec_capacity list.old }
     ensures { list.new.items ≡ list.old.items ++ more.items }
 {
     for item in more {
         list.push_reserved(item);
     }
+}
+
+/// Room for one more child.
+fn make_child_room<J: Drop, S: Drop>(
+    specs: &mut Vec<ChildSpec>,
+    bodies: &mut Vec<Body<J, S>>,
+) -> Result<(), AllocError>
+    ensures specs { specs.new.items ≡ specs.old.items }
+    ensures bodies { bodies.new.items ≡ bodies.old.items }
+    ensures specs_room { OnOk result (length specs.new.items < vec_capacity specs.new) }
+    ensures bodies_room { OnOk result (length bodies.new.items < vec_capacity bodies.new) }
+{
+    specs.reserve(1)?;
+    bodies.reserve(1)
+}
+
+/// Room for one more child, and this many more supervisors.
+fn make_room<J: Drop, S: Drop>(
+    specs: &mut Vec<ChildSpec>,
+    bodies: &mut Vec<Body<J, S>>,
+    below: &mut Vec<PlannedTable<J, S>>,
+    nested: &mut Vec<Nested>,
+    more: usize,
+) -> Result<(), AllocError>
+    ensures specs { specs.new.items ≡ specs.old.items }
+    ensures bodies { bodies.new.items ≡ bodies.old.items }
+    ensures below { below.new.items ≡ below.old.items }
+    ensures nested { nested.new.items ≡ nested.old.items }
+    ensures specs_room { OnOk result (length specs.new.items < vec_capacity specs.new) }
+    ensures bodies_room { OnOk result (length bodies.new.items < vec_capacity bodies.new) }
+    ensures below_room { OnOk result (length below.new.items + more ≤ vec_capacity below.new) }
+    ensures nested_room { OnOk result (length nested.new.items + more ≤ vec_capacity nested.new) }
+{
+    make_child_room(specs, bodies)?;
+    below.reserve(more)?;
+    nested.reserve(more)
+}
+
+/// Room for a plan of this many supervisors, and for the same under their numbers.
+fn plan_room<J: Drop, S: Drop>(
+    alloc: Global,
+    count: usize,
+) -> Result<(Vec<PlannedTable<J, S>>, Vec<TablePlan<J, S>>), AllocError>
+    ensures tables { IfOk result (λ rooms. rooms.0.items ≡ []) }
+    ensures plans { IfOk result (λ rooms. rooms.1.items ≡ []) }
+    ensures tables_room { IfOk result (λ rooms. count ≤ vec_capacity rooms.0) }
+    ensures plans_room { IfOk result (λ rooms. count ≤ vec_capacity rooms.1) }
+{
+    let tables = Vec::with_capacity(alloc, count)?;
+    let Ok(plans) = Vec::with_capacity(alloc, count) else {
+        drop(tables);
+        return Err(AllocError);
+    };
+    Ok((tables, plans))
 }
 
 /// Puts what one more child runs behind the others, for which there is room.
@@ -239,6 +302,9 @@ impl<J: Drop, S: Drop> TreeDraft<J, S> {
     fn spec_for(&self, child: &Child<J, S>) -> Result<ChildSpec, DraftFault>
         ensures spec { IfOk result (λ spec. spec_of child.now.keys ≡ Some spec) }
         ensures none { OnOk result (add_fault child.now self.now ≡ None) }
+        ensures few { OnOk result (length self.now.specs < MAX_CHILDREN) }
+        ensures kind { OnOk result (kind_fault (is_simple self.now.flags.strategy) (is_template child.now.runs) ≡ None) }
+        ensures fits { IfOk result (λ spec. runs_fault spec child.now.runs self.now ≡ None) }
         ensures lawful { OnOk result (MayBeOpened child.now.runs) }
         ensures fault { IfErr result (λ fault. add_fault child.now self.now ≡ Some fault) }
         ensures given { IfErr result IsOfDraft }
@@ -271,9 +337,9 @@ impl<J: Drop, S: Drop> TreeDraft<J, S> {
         ensures same { OnErr result (self.new ≡ self.old) }
     {
         let _ = &self.depth;
-        if self.specs.reserve(1).is_err() || self.bodies.reserve(1).is_err() {
+        let Ok(()) = make_child_room(&mut self.specs, &mut self.bodies) else {
             return Err(body);
-        }
+        };
         self.specs.push_reserved(spec);
         put_near(&mut self.bodies, body);
         Ok(())
@@ -292,6 +358,30 @@ impl<J: Drop, S: Drop> TreeDraft<J, S> {
         Ok(())
     }
 
+    /// The top supervisor, those below it, and whose child each of these is.
+    fn into_tables(self) -> (PlannedTable<J, S>, Vec<PlannedTable<J, S>>, Vec<Nested>)
+        requires { IsLawful self.flags self.specs }
+        ensures tables { result.0 ∷ result.1.items ≡ plans_of self }
+        ensures nested { result.2.items ≡ self.nested }
+        ensures below_count { length result.1.items ≡ length self.below }
+        ensures nested_count { length result.2.items ≡ length self.below }
+    {
+        let _ = &self.depth;
+        let TreeDraft {
+            flags,
+            specs,
+            bodies,
+            below,
+            nested,
+            depth: _,
+        } = self;
+        (
+            PlannedTable::new(SupSpec::new(flags, specs), bodies),
+            below,
+            nested,
+        )
+    }
+
     /// Puts a supervisor, with all that is below it, behind the other children.
     fn put_tree(&mut self, spec: ChildSpec, tree: TreeDraft<J, S>) -> Result<(), TreeDraft<J, S>>
         requires few { length self.old.specs < MAX_CHILDREN }
@@ -306,30 +396,23 @@ impl<J: Drop, S: Drop> TreeDraft<J, S> {
         let _ = &self.depth;
         let _ = &tree.depth;
         let more = tree.below.len() + 1;
-        if self.specs.reserve(1).is_err()
-            || self.bodies.reserve(1).is_err()
-            || self.below.reserve(more).is_err()
-            || self.nested.reserve(more).is_err()
-        {
+        let Ok(()) = make_room(
+            &mut self.specs,
+            &mut self.bodies,
+            &mut self.below,
+            &mut self.nested,
+            more,
+        ) else {
             return Err(tree);
-        }
-        let TreeDraft {
-            flags,
-            specs,
-            bodies,
-            below,
-            nested,
-            depth,
-        } = tree;
+        };
         let behind = self.below.len() + 1;
         let id = spec.id;
+        let depth = tree.depth;
+        let (top, below, nested) = tree.into_tables();
         self.specs.push_reserved(spec);
         put_near(&mut self.bodies, Body::Sup(TableNo::new(behind)));
-        self.below
-            .push_reserved(PlannedTable::new(SupSpec::new(flags, specs), bodies));
-        put_behind(&mut self.below, below);
-        self.nested.push_reserved(Nested { id, behind });
-        put_behind(&mut self.nested, nested);
+        put_behind(&mut self.below, top, below);
+        put_behind(&mut self.nested, Nested { id, behind }, nested);
         self.depth = self.depth.max(depth + 1);
         Ok(())
     }
@@ -506,10 +589,7 @@ impl<J: Drop, S: Drop> TreeDraft<J, S> {
     {
         match self.add(Child::template(id)) {
             Ok(()) => Ok(()),
-            Err(Refused { fault, given }) => {
-                drop(given);
-                Err(fault)
-            }
+            Err(back) => Err(DraftFault::from(back)),
         }
     }
 
@@ -530,30 +610,33 @@ impl<J: Drop, S: Drop> TreeDraft<J, S> {
             return Err(Refused { fault, given: self });
         }
         let count = self.below.len() + 1;
-        let Ok(mut tables) = Vec::with_capacity(alloc, count) else {
-            return Err(Refused {
+        match plan_room(alloc, count) {
+            Ok((tables, room)) => Ok(self.into_plan(tables, room)),
+            Err(AllocError) => Err(Refused {
                 fault: DraftFault::OutOfMemory,
                 given: self,
-            });
-        };
-        let Ok(room) = Vec::with_capacity(alloc, count) else {
-            drop(tables);
-            return Err(Refused {
-                fault: DraftFault::OutOfMemory,
-                given: self,
-            });
-        };
-        let TreeDraft {
-            flags,
-            specs,
-            bodies,
-            below,
-            nested,
-            depth: _,
-        } = self;
+            }),
+        }
+    }
+
+    /// The same plan in these lists, which have room for it.
+    fn into_plan(
+        self,
+        tables: Vec<PlannedTable<J, S>>,
+        room: Vec<TablePlan<J, S>>,
+    ) -> TreePlan<J, S>
+        requires lawful { IsLawful self.flags self.specs }
+        requires empty { tables.items ≡ [] }
+        requires tables_room { size self ≤ vec_capacity tables }
+        requires none { room.items ≡ [] }
+        requires plans_room { size self ≤ vec_capacity room }
+        ensures { result ≡ plans_of self }
+    {
+        let _ = &self.depth;
+        let (top, below, nested) = self.into_tables();
         drop(nested);
-        tables.push_reserved(PlannedTable::new(SupSpec::new(flags, specs), bodies));
-        put_behind(&mut tables, below);
-        Ok(TreePlan::new(tables, room))
+        let mut tables = tables;
+        put_behind(&mut tables, top, below);
+        TreePlan::new(tables, room)
     }
 }

@@ -1,5 +1,5 @@
 //! The paths of a tree's supervisors.
-ghost use Rattle.std.specs.Prelude.{◌≡◌, [], ◌∷◌, IfOk, map, position};
+ghost use Rattle.std.specs.Prelude.{◌≡◌, ◌++◌, [], ◌∷◌, IfOk, OnOk, map, position};
 ghost use Rattle.otp_draft.specs.Paths.{has_path, next_prefix, path_text, prefixes_behind};
 
 use otp_reason::Name;
@@ -68,20 +68,52 @@ fn next_path(alloc: Global, before: &[TreePath], one: &Nested) -> Result<TreePat
     Ok(TreePath { prefix })
 }
 
+/// Puts a path behind the others.
+fn put_path(paths: &mut Vec<TreePath>, path: TreePath) -> Result<(), AllocError>
+    ensures { OnOk result (paths.new.items ≡ paths.old.items ++ path ∷ []) }
+{
+    paths.push(path).map_err(|_| AllocError)
+}
+
+/// Puts the paths of these supervisors behind those that stand before them.
+fn put_paths(alloc: Global, paths: &mut Vec<TreePath>, nested: &[Nested]) -> Result<(), AllocError>
+    ensures { OnOk result (paths.new.items ≡ prefixes_behind paths.old.items nested.now) }
+{
+    for one in nested {
+        let path = next_path(alloc, paths.as_slice(), one)?;
+        put_path(paths, path)?;
+    }
+    Ok(())
+}
+
+/// Puts the root's path first, and then those of these supervisors.
+fn put_all_paths(
+    alloc: Global,
+    paths: &mut Vec<TreePath>,
+    nested: &[Nested],
+) -> Result<(), AllocError>
+    requires { paths.old.items ≡ [] }
+    ensures { OnOk result (paths.new.items ≡ prefixes_behind ([] ∷ []) nested.now) }
+{
+    let root = TreePath {
+        prefix: Vec::new(alloc),
+    };
+    put_path(paths, root)?;
+    put_paths(alloc, paths, nested)
+}
+
 /// The paths of a tree's supervisors, of which these stand below the root.
 pub(crate) fn paths_of(alloc: Global, nested: &[Nested]) -> Result<Vec<TreePath>, AllocError>
     ensures { IfOk result (λ paths. paths.items ≡ prefixes_behind ([] ∷ []) nested.now) }
 {
     let mut paths = Vec::new(alloc);
-    let root = TreePath {
-        prefix: Vec::new(alloc),
-    };
-    paths.push(root).map_err(|_| AllocError)?;
-    for one in nested {
-        let path = next_path(alloc, paths.as_slice(), one)?;
-        paths.push(path).map_err(|_| AllocError)?;
+    match put_all_paths(alloc, &mut paths, nested) {
+        Ok(()) => Ok(paths),
+        Err(AllocError) => {
+            drop(paths);
+            Err(AllocError)
+        }
     }
-    Ok(paths)
 }
 
 /// The place of the first of these paths whose text is this.

@@ -1,16 +1,15 @@
 //! A supervisor of the tree: its core, and how many of its orders were taken.
 
-ghost use Rattle.std.specs.Prelude.{◌≡◌, ℕ, All, ◌≤◌, ◌<◌, ◌^◌, ◌-◌, ◌⊎◌, [], false, true, IsTrue, Some, is_some, min, slice_get, length, nat_lt, option_map, IfErr, IfOk, IfSome, OnOk, OnErr};
+ghost use Rattle.std.specs.Prelude.{◌≡◌, ℕ, All, ◌≤◌, ◌<◌, ◌^◌, ◌-◌, ◌⊎◌, false, true, Some, is_some, min, slice_get, length, option_map, IfErr, IfOk, IfSome, OnOk, OnErr};
 ghost use Rattle.otp_core.specs.Full.{is_full};
 ghost use Rattle.otp_core.specs.Happened.{HasNoRoom as CoreHasNoRoom, IsEventFault, cut_before};
 ghost use Rattle.otp_table.specs.Rows.{has_process};
 ghost use Rattle.otp_rules.specs.Counts.{counts_of};
 ghost use Rattle.otp_rules.specs.Ends.{last_stamps};
 ghost use Rattle.otp_rules.specs.Next.{next_deadline, next_kind};
-ghost use Rattle.otp_rules.specs.Run.{empty_state};
 ghost use Rattle.otp_rules.specs.State.{is_over};
 ghost use Rattle.otp_spec.specs.declared.limits.TheConstants.{MAX_READING};
-ghost use Rattle.otp_driven.specs.Members.{CoreHappens, Happens, HasNoRoom, IsMany, IsRefused, has_order, passed, row_at, state_in, unopened};
+ghost use Rattle.otp_driven.specs.Members.{CoreHappens, Happens, HasNoRoom, IsRefused, has_order, passed, row_at, state_in, unopened};
 ghost use Rattle.otp_driven.specs.Replies.{AreAnswered, IsKept, IsReplyIn};
 ghost use Rattle.otp_driven.specs.declared.fault.DriveFault.TheVariants.{OutOfMemory};
 ghost use Rattle.otp_rules.specs.Needs.{numbers_of};

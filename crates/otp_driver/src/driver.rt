@@ -4,7 +4,7 @@ ghost use Rattle.std.specs.Prelude.{Err, IsTrue, true, false, ◌≡◌, ◌<◌
 ghost use Rattle.otp_rules.specs.declared.event.Item.TheVariants as item;
 ghost use Rattle.otp_rules.specs.declared.event.Kind.TheVariants as kind;
 ghost use Rattle.otp_spec.specs.declared.limits.TheConstants.{MAX_READING};
-ghost use Rattle.otp_driver.specs.Driven.{AllTaken, Called, Carried, Does, GoesOn, IsAsked, IsAt, is_nested, IsNextBy, IsOutside, least_deadline, process_of, Occurs, Refuses, RefusesCall, RefusesMore, RefusesNote, RefusesRoute, RefusesStep, Relinks, Routed, Stands, Step, Takes, comes_at, with_link};
+ghost use Rattle.otp_driver.specs.Driven.{AllTaken, Called, Carried, Does, GoesOn, IsAsked, IsAt, is_nested, IsNextBy, IsOutside, least_deadline, process_of, Occurs, Refuses, RefusesCall, RefusesMore, RefusesNote, RefusesRoute, RefusesStep, Relinks, Stands, Step, Takes, comes_at, with_link};
 ghost use Rattle.otp_rules.specs.Next.{earlier};
 ghost use Rattle.otp_driven.specs.declared.fault.DriveFault.TheVariants as fault;
 ghost use Rattle.otp_driver.specs.declared.route.Route.TheVariants as route;
@@ -20,7 +20,6 @@ use otp_reason::Note;
 use otp_rules::{Call, Effect, Ending, Item, Kind};
 use otp_spec::MAX_READING;
 use otp_table::Row;
-use std::alloc::Global;
 use std::marker::Model;
 
 /// A tree of supervisors whose processes live outside. A supervisor below the root is a child of another: its start opens

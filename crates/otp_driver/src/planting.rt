@@ -2,7 +2,7 @@
 
 ghost use Rattle.std.specs.Prelude.{◌≡◌, ◌≤◌, ℕ, ◌++◌, [], ◌∷◌, IfOk, IfSome, None, OnOk, Some, length, slice_get};
 ghost use Rattle.otp_rules.specs.declared.event.Kind.TheVariants as kind;
-ghost use Rattle.otp_driver.specs.Driven.{Driven, Occurs};
+ghost use Rattle.otp_driver.specs.Driven.{Occurs};
 ghost use Rattle.otp_driven.specs.Members.{unopened};
 ghost use Rattle.otp_driver.specs.Opened.{AddsLinks, AddsTree, IsPlanted, Opens, nothing};
 

@@ -1,6 +1,6 @@
 //! The files that the program reads, and the pages that it writes.
 
-ghost use Rattle.std.specs.Prelude.{ℕ, Bool, List, ◌≡◌, ◌≤◌, ◌<◌, ◌++◌, ◌⊎◌, IfErr, IfOk, OnOk, OnErr, codes, vec_len};
+ghost use Rattle.std.specs.Prelude.{Bool, ◌≡◌, ◌≤◌, ◌<◌, ◌++◌, ◌⊎◌, IfErr, IfOk, OnOk, OnErr, codes, vec_len};
 ghost use Rattle.std.specs.Io.KnownBytes.{Appends};
 ghost use Rattle.otp_ending.specs.Devices.{Files};
 ghost use Rattle.otp_ending.specs.Told.{IsUnkept, IsUnreadEnd, TellsFirst};

@@ -1,7 +1,7 @@
 //! Children of a supervisor that are taken together.
 
 ghost use Rattle.std.specs.Prelude.{◌≡◌, ◌++◌, IfOk, OnOk};
-ghost use Rattle.std.specs.List.{filter_map, list_any};
+ghost use Rattle.std.specs.List.{list_any};
 ghost use Rattle.otp_folds.specs.Alike.{is_alike};
 ghost use Rattle.otp_folds.specs.Groups.{group_if, groups, groups_from, heads_after, name_if, names_with};
 

@@ -1,8 +1,8 @@
 //! What the failure of each child of a tree costs, the worst first.
 
-ghost use Rattle.std.specs.Prelude.{◌≡◌, ◌++◌, List, [], None, IfOk, OnOk, length};
+ghost use Rattle.std.specs.Prelude.{◌≡◌, ◌++◌, IfOk, OnOk};
 ghost use Rattle.otp_folds.specs.Groups.{is_wanted};
-ghost use Rattle.otp_folds.specs.Rows.{AreRows, AreRowsFrom, HasRow, HaveRows, IsRow, PutsRanked, groups_in};
+ghost use Rattle.otp_folds.specs.Rows.{AreRows, HasRow, HaveRows, IsRow, PutsRanked, groups_in};
 
 use crate::alike::Grain;
 use crate::group::{Group, find_groups};

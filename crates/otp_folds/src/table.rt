@@ -1,6 +1,6 @@
 //! Limits of a tree as text.
 
-ghost use Rattle.std.specs.Prelude.{◌≡◌, ◌≤◌, ◌++◌, None, IfOk, OnOk, length, replicate};
+ghost use Rattle.std.specs.Prelude.{◌≡◌, ◌≤◌, ◌++◌, IfOk, OnOk, length};
 ghost use Rattle.std.specs.List.{flat_map};
 ghost use Rattle.otp_folds.specs.Table.{affected_text, alike_text, children_end, children_text, clip, crash_text, damage_text, ends_text, entry_end, entry_text, first_text, giver_text, list_text, names_text, names_width, rest_text, root_column, root_text, row_text, some_text, supervisors_text, table_text, title_of, title_text, titles, word_of};
 ghost use Rattle.otp_folds.specs.declared.table.TheConstants.{SHOWN, WIDTH};

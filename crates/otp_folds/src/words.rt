@@ -1,6 +1,6 @@
 //! The words of a table of limits.
 
-ghost use Rattle.std.specs.Prelude.{◌≡◌, ◌++◌, None, OnOk, codes, replicate};
+ghost use Rattle.std.specs.Prelude.{◌≡◌, ◌++◌, OnOk, replicate};
 ghost use Rattle.otp_folds.specs.Words.{are_same, at_left, at_right, burst_text, clock_if, clock_text, gone_text, interval_text, needs_text, reason_text, steady_text};
 
 use otp_limits::{Fate, Steady};

@@ -1,5 +1,5 @@
 //! What one thread needs to serve a tree.
-ghost use Rattle.std.specs.Prelude.{◌≡◌, ◌↔◌, ◌+◌, ◌<◌, ◌≤◌, None, Some, is_some, true, IfNone, IfSome, length};
+ghost use Rattle.std.specs.Prelude.{◌≡◌, ◌↔◌, ◌<◌, ◌≤◌, None, Some, is_some, true, IfNone, IfSome, length};
 ghost use Rattle.otp_spec.specs.declared.limits.TheConstants.{MAX_READING};
 ghost use Rattle.otp_hand.specs.Readings.{HasRead};
 ghost use Rattle.otp_hand.specs.Standings.{standing_of};

@@ -1,5 +1,5 @@
 //! What a hand runs processes with.
-ghost use Rattle.std.specs.Prelude.{◌≡◌, ◌+◌, ◌<◌, ◌++◌, ◌∷◌, [], None, Some, is_some, true, false, option_copied, OnErr, OnOk, IfErr, IfSome, MatchOption, length};
+ghost use Rattle.std.specs.Prelude.{◌≡◌, ◌+◌, ◌<◌, ◌++◌, ◌∷◌, [], None, Some, is_some, option_copied, OnErr, OnOk, IfErr, IfSome, MatchOption, length};
 ghost use Rattle.otp_bodies.specs.Ports.{launched, told};
 ghost use Rattle.otp_bodies.specs.Letters.{Comes, carries_body, is_end_note};
 ghost use Rattle.otp_rules.specs.declared.event.Item.TheVariants as item;

@@ -1,6 +1,6 @@
 //! What a worked job does, and the word for it.
 ghost use Rattle.std.specs.Prelude.{◌≡◌, Some};
-ghost use Rattle.otp_jobs.specs.Jobs.{life_after, work_of, work_word};
+ghost use Rattle.otp_jobs.specs.Jobs.{work_of, work_word};
 
 /// What a worked job does with its starts and turns.
 #[derive(Clone, Copy, Debug, PartialEq, Eq)]

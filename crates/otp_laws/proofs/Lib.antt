@@ -25,3 +25,5 @@ mod Between
 mod EndOrders
 mod Dynamic
 mod Simple
+mod Ticks
+mod Stays

@@ -9,3 +9,5 @@ pub mod Once
 pub mod Refusals
 pub mod Simple
 pub mod Starts
+pub mod Ticks
+pub mod Stays

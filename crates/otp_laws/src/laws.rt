@@ -9,6 +9,8 @@ ghost use Rattle.otp_laws.specs.Once.{CallsAnsweredOnce, CallsAnsweredOnceFrom};
 ghost use Rattle.otp_laws.specs.Refusals.{RefusalsChangeNone};
 ghost use Rattle.otp_laws.specs.Simple.{SimpleHasNoneUndefined};
 ghost use Rattle.otp_laws.specs.Starts.{EndOrdersEnd, StartsOfChildren, StartsOfChildrenFrom};
+ghost use Rattle.otp_laws.specs.Stays.{UpKeepsChildren};
+ghost use Rattle.otp_laws.specs.Ticks.{TicksKillEachLate, TicksKillEachLateFrom};
 
 /// Of the notes that name one process, at most one answer to its start and at most one Exit change the children's rows.
 /// Each other changes none: it comes where no child awaits it. An answer is awaited by a child whose start has none yet; an
@@ -112,4 +114,18 @@ pub fn starts_are_of_children()
 /// After an event that orders an End the supervisor has ended.
 pub fn end_orders_end()
     ensures { EndOrdersEnd }
+{}
+
+/// An event that ticks kills each child that was asked to shut down until a time that has come: its kill is ordered, and its row
+/// says so. Each other row stays at its place as it was, none comes or goes, and of the rest of the state the stamp of the last
+/// event alone is new (Supervisor Behaviour, Child Specification, shutdown).
+pub fn ticks_kill_each_late()
+    ensures from_empty { TicksKillEachLate }
+    ensures from_any { TicksKillEachLateFrom }
+{}
+
+/// The note that a process is up takes no child away and adds none, where nothing waits and the supervisor isn't over then: the rows
+/// have the same slots, in the same order.
+pub fn up_keeps_children()
+    ensures { UpKeepsChildren }
 {}

@@ -1,6 +1,6 @@
 //! What the failure of one child costs.
 
-ghost use Rattle.std.specs.Prelude.{◌≡◌, ◌++◌, None, IfErr, IfOk, OnOk, length};
+ghost use Rattle.std.specs.Prelude.{◌≡◌, ◌++◌, None, IfErr, IfOk, OnOk};
 ghost use Rattle.std.specs.List.{filter_map};
 ghost use Rattle.otp_limits.specs.Costs.{Affects, Crashed, IsCost, IsUnknown, started_by, stopped_by};
 ghost use Rattle.otp_limits.specs.Fates.{Fills, IsUnplayed};

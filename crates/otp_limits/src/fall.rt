@@ -1,8 +1,8 @@
 //! How the root of a tree fares where a child crashes again and again.
 
 ghost use Rattle.std.specs.Prelude.{◌≡◌, ◌<◌, ◌++◌, false, IfOk, IfSome, OnOk, length, slice_get};
-ghost use Rattle.otp_limits.specs.Falls.{FallsFrom, FallsOnce, FallsSo, IsFall, Joins, OpensTree, gave_up, gave_up_by, given_up, is_joined, path_if, process_at, supervisor_path};
-ghost use Rattle.otp_trial.specs.Played.{Seated, is_root_over};
+ghost use Rattle.otp_limits.specs.Falls.{FallsFrom, FallsSo, IsFall, Joins, OpensTree, gave_up, gave_up_by, given_up, is_joined, path_if, process_at, supervisor_path};
+ghost use Rattle.otp_trial.specs.Played.{is_root_over};
 
 use crate::fate::Fate;
 use crate::list::Listed;

@@ -1,6 +1,6 @@
 //! How a supervisor fares where a child crashes again and again.
 
-ghost use Rattle.std.specs.Prelude.{◌≡◌, ◌≤◌, ◌*◌, None, IfErr, IfOk, false};
+ghost use Rattle.std.specs.Prelude.{◌≡◌, ◌≤◌, ◌*◌, IfErr, IfOk, false};
 ghost use Rattle.otp_spec.specs.declared.limits.TheConstants.{MAX_READING};
 ghost use Rattle.otp_limits.specs.Fates.{Fares, Fills, IsUnplayed, Plays};
 ghost use Rattle.otp_rules.specs.State.{is_over};

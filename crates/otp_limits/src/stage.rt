@@ -1,6 +1,6 @@
 //! A supervisor that is played in a world where all goes well, but for one child that crashes.
 
-ghost use Rattle.std.specs.Prelude.{ℕ, [], ◌≡◌, ◌+◌, ◌≤◌, ◌<◌, ◌++◌, None, OnOk, IfErr, IfOk, IfSome, length, not, position, option_map, slice_get, vec_capacity, vec_len};
+ghost use Rattle.std.specs.Prelude.{[], ◌≡◌, ◌+◌, ◌≤◌, ◌<◌, ◌++◌, None, OnOk, IfErr, IfOk, IfSome, length, not, position, vec_capacity, vec_len};
 ghost use Rattle.std.specs.List.{filter, filter_map};
 ghost use Rattle.otp_limits.specs.Fates.{HasNoRoom, crashed, is_of, process_of, running_at};
 ghost use Rattle.otp_limits.specs.Scene.{BeginFills, Begins, FillsUp, IsFull, OpeningFills, Opens, Settles, happened, heard, joined, next_in, note_of};

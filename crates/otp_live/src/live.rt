@@ -1,6 +1,6 @@
 //! A tree runs until it has ended.
 ghost use Rattle.std.specs.Prelude.{◌≡◌, ◌<◌, ◌≤◌, length, IfErr, IfOk, OnOk};
-ghost use Rattle.otp_spec.specs.declared.limits.TheConstants.{MAX_READING, MAX_TABLES};
+ghost use Rattle.otp_spec.specs.declared.limits.TheConstants.{MAX_TABLES};
 ghost use Rattle.otp_run.specs.Rule.{all_parts};
 ghost use Rattle.otp_close.specs.Closes.{HasTables, HaveBegun, IsReportOf};
 ghost use Rattle.otp_hand.specs.Standings.{standing_of};

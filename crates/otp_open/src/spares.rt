@@ -4,7 +4,7 @@ ghost use Rattle.otp_open.specs.Spares.{ArePadded, IsSpare};
 
 use crate::plan::TablePlan;
 use otp_spec::{SupFlags, SupSpec};
-use std::alloc::{AllocError, Global};
+use std::alloc::Global;
 
 /// The plan of a spare place: no children. Takes no memory.
 fn spare_plan<J: Drop, S: Drop>(alloc: Global) -> TablePlan<J, S>

@@ -1,7 +1,6 @@
 //! Why supervisors ended, a line for each.
 
 ghost use Rattle.std.specs.Prelude.{◌≡◌, ◌++◌, OnOk};
-ghost use Rattle.otp_core.specs.View.{state_of};
 ghost use Rattle.otp_outcome.specs.Lives.{TellsLives, counts_text, end_text, failed_text, given_up_text, giving_up, life_line, lives_text, significant, significant_text, supervisor_text, unstarted, within};
 
 use crate::words::write_count;

@@ -1,6 +1,5 @@
 //! Pieces of a page.
 
-use std::alloc::{AllocError, Global};
 use std::marker::Model;
 
 /// What a page says of a supervisor and all below it. Contracts see its bytes.

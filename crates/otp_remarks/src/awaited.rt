@@ -1,7 +1,7 @@
 //! What a supervisor awaits of its children.
 
 ghost use Rattle.std.specs.Prelude.{◌≡◌, ◌++◌, OnOk};
-ghost use Rattle.otp_remarks.specs.Awaiting.{awaited_in, awaited_line, awaited_of, awaited_text, children_awaited, process_of_child, until_text, waiting_text};
+ghost use Rattle.otp_remarks.specs.Awaiting.{awaited_in, awaited_line, awaited_text, children_awaited, process_of_child, until_text, waiting_text};
 
 use otp_reason::Name;
 use otp_table::{Row, RowState};

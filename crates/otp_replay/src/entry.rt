@@ -1,6 +1,6 @@
 //! A line of a log.
 
-ghost use Rattle.std.specs.Prelude.{◌≡◌, ◌≤◌, IfOk, length};
+ghost use Rattle.std.specs.Prelude.{◌≡◌, IfOk};
 ghost use Rattle.std.specs.Option.{option_map};
 ghost use Rattle.otp_replay.specs.Logs.{entry_by, entry_in, entry_of};
 

@@ -3,7 +3,7 @@
 ghost use Rattle.std.specs.Prelude.{ℕ, List, ◌≡◌, ◌++◌, Ok, IfOk, OnOk};
 ghost use Rattle.otp_replay.specs.declared.played.ReplayEnd.TheVariants.{Tried};
 ghost use Rattle.otp_replay.specs.Logs.{log_in};
-ghost use Rattle.otp_replay.specs.Told.{Closes, PlaysLog, Replays, counts_text, fault_line, fault_text, hint_text, listed_if, reason_text, tail_text};
+ghost use Rattle.otp_replay.specs.Told.{Closes, Replays, counts_text, fault_line, fault_text, hint_text, listed_if, reason_text, tail_text};
 ghost use Rattle.otp_try.specs.Pages.{tells_orders};
 ghost use Rattle.otp_try.specs.declared.play.Writer.TheVariants.{Script};
 

@@ -1,6 +1,6 @@
 //! A log that is read: the script that it stands for.
 
-ghost use Rattle.std.specs.Prelude.{◌≡◌, ◌+◌, ◌-◌, ◌<◌, ◌≤◌, ◌++◌, ◌==◌, Ok, Err, IfOk, IfSome, OnOk, drop, length, map, position};
+ghost use Rattle.std.specs.Prelude.{◌≡◌, ◌+◌, ◌-◌, ◌<◌, ◌++◌, ◌==◌, Ok, Err, IfOk, IfSome, OnOk, drop, length, map, position};
 ghost use Rattle.otp_sim.specs.Sim.{lines_of};
 ghost use Rattle.otp_replay.specs.Logs.{entry_in, entry_taken, event_taken, line_taken, lines_taken, log_in, no_log, other_text, outcome, shown, step_text, when_of, with_event, with_other, with_silent, word_if};
 

@@ -5,7 +5,7 @@ ghost use Rattle.otp_reason.specs.Names.{name_bytes};
 ghost use Rattle.otp_reason.specs.Texts.{text_bytes};
 ghost use Rattle.otp_rules.specs.declared.work.Phase.TheVariants.{Open};
 ghost use Rattle.otp_run.specs.Lists.{AllAt};
-ghost use Rattle.otp_report.specs.Tellings.{Agrees, AllAgree, AreSo, EndedSo, Gives, IsBorneOut, IsCutOff, IsEndTold, IsEndUnder, IsFalseEnd, IsGiven, IsMismatch, IsMismatchOf, IsSameCause, IsSameReason, IsSo, IsThere, IsToldSo, KnowsNone, told_end};
+ghost use Rattle.otp_report.specs.Tellings.{Agrees, AllAgree, AreSo, EndedSo, IsBorneOut, IsCutOff, IsEndTold, IsEndUnder, IsGiven, IsMismatch, IsMismatchOf, IsSameCause, IsSameReason, IsSo, IsThere, IsToldSo, KnowsNone, told_end};
 
 use crate::report::TableReport;
 use otp_core::{Core, History};

@@ -1,5 +1,5 @@
 //! What a tree was when it was taken apart.
-ghost use Rattle.std.specs.Prelude.{◌≡◌, ◌-◌, ◌^◌, ◌≤◌, ◌∷◌, [], length, min, IfNone, IfSome};
+ghost use Rattle.std.specs.Prelude.{◌≡◌, ◌-◌, ◌^◌, length, min, IfNone, IfSome};
 ghost use Rattle.otp_core.specs.View.{state_of, stored_of};
 ghost use Rattle.otp_rules.specs.Ends.{init_failed, reason_of};
 ghost use Rattle.otp_rules.specs.Needs.{numbers_of};

@@ -1,7 +1,7 @@
 -- A run queue is taken apart, a scheduler, a way and a deque at a time.
 use Rattle.std.proofs.Common.{◌≡◌, ℕ, zero, suc, ◌+◌, ◌-◌, ◌<◌, ◌≤◌, List, [], ◌∷◌, ◌++◌, length, set, get_or, map, refl, sym, ap, ◌∙◌, subst, arith, append_assoc, length-append}
 use Rattle.std.specs.Prelude.{sum_by}
-use Rattle.std.proofs.lemmas.List.{length-map, length-set, set-get_or}
+use Rattle.std.proofs.lemmas.List.{append-nil, length-map, length-set, set-get_or}
 use Rattle.std.proofs.lemmas.List.Sums.{sum_by-append, sum_by-cons, sum_by-set}
 use Rattle.otp_job.specs.declared.process.Ticket.{Ticket}
 use Rattle.otp_job.specs.Processes.{ProcessState}
@@ -71,6 +71,35 @@ module _ {J S : Type 0} where
         let l : sum_by weight (map ticket_of (a.left ++ b.left)) ≡ sum_by weight (map ticket_of a.left ++ map ticket_of b.left) = ap (sum_by weight) (map-append ticket_of a.left b.left) in
         omega (arith, sum_by-append (puts_of weight) hs ks, sum_by-append (taken_of weight) hs ks, sum_by-append weight (map ticket_of a.left) (map ticket_of b.left));
   }
+
+-- no way came home yet, and all of them did
+pub none_absorbed : (old : List OwnState) → Absorbed old [] old
+none_absorbed old = record { taken = λ weight. omega arith; put = λ weight. refl; many = refl }
+
+nothing_left : (rest : List VictimState) → length rest ≡ 0 → rest ≡ []
+nothing_left [] none = refl
+nothing_left (v ∷ rest) none = absurd (omega (arith, none))
+
+pub all_home : (rest : List VictimState) (now : List OwnState) → length rest ≡ 0 → AllAt (IsAwaiting rest) now → AllAt IsHome now
+all_home rest now none all =
+    each_at (IsAwaiting []) IsHome now (subst (λ (l : List VictimState). AllAt (IsAwaiting l) now) (nothing_left rest none) all) (λ j x within p. let q = p.1 in omega arith)
+
+-- the ways that came home and the rest are all ways
+pub still_all : (all yielded rest rest' : List VictimState) (v : VictimState) → rest ≡ v ∷ rest' → yielded ++ rest ≡ all → (yielded ++ v ∷ []) ++ rest' ≡ all
+still_all all yielded rest rest' v next so_far = append_assoc yielded (v ∷ []) rest' ∙ ap (λ l. yielded ++ l) (sym next) ∙ so_far
+
+pub absorbed_all : (old now : List OwnState) (all yielded rest : List VictimState) → length rest ≡ 0 → yielded ++ rest ≡ all → Absorbed old yielded now → Absorbed old all now
+absorbed_all old now all yielded rest none whole a =
+    subst (λ (l : List VictimState). Absorbed old l now) (sym (append-nil yielded) ∙ ap (λ l. yielded ++ l) (sym (nothing_left rest none)) ∙ whole) a
+
+-- a way comes to the deque that it leads to, which awaits it
+pub its_home : (now : List OwnState) (rest rest' : List VictimState) (v : VictimState) (i : ℕ) (o : OwnState) → rest ≡ v ∷ rest' → v.index ≡ i → i < length now → o ≡ get_or now i o → AllAt (IsAwaiting rest) now → (v.index ≡ o.index) × (o.parts < all_parts)
+its_home now rest rest' v i o next at within is all =
+    let all' : AllAt (IsAwaiting (v ∷ rest')) now = subst (λ (l : List VictimState). AllAt (IsAwaiting l) now) next all in
+    let h : IsAwaiting (v ∷ rest') i o = subst (IsAwaiting (v ∷ rest') i) (sym is) (get_at (IsAwaiting (v ∷ rest')) now i o all' within) in
+    let p = h.0 in
+    let q = h.1 in
+    (omega arith, omega arith)
 
 -- one way more came home
 module _ (old now : List OwnState) (ways rest rest' : List VictimState) (v : VictimState) (i : ℕ) (o w : OwnState)

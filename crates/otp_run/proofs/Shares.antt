@@ -30,6 +30,14 @@ module _ (count thief index : ℕ) (ss : List SchedulerState) (v w : SchedulerSt
       let h = one_is lent all in
       h.is ∙ ap (λ s. unused s.own.index s.own.parts s.others) (sym h.is)
 
+  -- it has a part to spare
+  pub one_spare : (lent : ℕ → ℕ) → thief + lent index + 1 < all_parts + min 1 (thief - index) → AllAt (HasLent count thief lent) ss → 1 < v.own.parts
+  one_spare lent enough all =
+      let h = one_is lent all in
+      let l = h.left in
+      let parts : v.own.parts ≡ h.parts = ap (λ s. s.own.parts) h.is in
+      omega arith
+
   -- its index is its place
   pub one_index : (lent : ℕ → ℕ) → AllAt (HasLent count thief lent) ss → v.own.index ≡ index
   one_index lent all = ap (λ s. s.own.index) (one_is lent all).is

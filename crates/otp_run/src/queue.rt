@@ -1,5 +1,5 @@
 // The run queue is opened, and shared out among its schedulers.
-ghost use Rattle.std.specs.Prelude.{◌≡◌, ◌+◌, ◌-◌, [], ◌<◌, ◌≤◌, ◌++◌, length, map, IfOk, OnOk};
+ghost use Rattle.std.specs.Prelude.{◌≡◌, ◌+◌, ◌-◌, [], ◌∷◌, ◌<◌, ◌≤◌, ◌++◌, length, map, IfOk, OnOk};
 ghost use Rattle.crossbeam_deque.specs.Handles.{worker_deque};
 ghost use Rattle.otp_run.specs.Lists.{AllAt};
 ghost use Rattle.otp_run.specs.Deques.{fresh_victim};
@@ -64,15 +64,48 @@ impl<J: Drop, S: Drop> RunQueue<J, S> {
     {
         let RunQueue { workers } = self;
         let mut schedulers = unused_schedulers::<N, J, S>(alloc, workers)?;
-        for thief in 0..schedulers.len() {
-            let mut ways = Vec::new(alloc);
-            lend_from_above(&mut schedulers, thief, &mut ways)?;
-            lend_from_below(&mut schedulers, thief, &mut ways)?;
-            schedulers[thief].equip(ways);
-        }
-        complete_all(&mut schedulers);
+        let Ok(()) = equip_all(alloc, &mut schedulers) else {
+            drop(schedulers);
+            return Err(AllocError);
+        };
         Ok(schedulers)
     }
+}
+
+// Each gets a way to each other's deque, and is then told how many there are.
+fn equip_all<N: RunNaming, J: Drop, S: Drop>(
+    alloc: Global,
+    schedulers: &mut Vec<Scheduler<N, J, S>>,
+) -> Result<(), AllocError>
+    requires few { length schedulers.old.items ≤ all_parts }
+    requires unused { AllAt (λ k s. s ≡ unused k all_parts []) schedulers.old.items }
+    ensures count { OnOk result (length schedulers.new.items ≡ length schedulers.old.items) }
+    ensures opened { OnOk result (AllAt (λ k s. s ≡ opened (length schedulers.old.items) k) schedulers.new.items) }
+{
+    for thief in 0..schedulers.len() {
+        equip_one(alloc, schedulers, thief)?;
+    }
+    complete_all(schedulers);
+    Ok(())
+}
+
+// The thief gets a way to each other's deque.
+fn equip_one<N: RunNaming, J: Drop, S: Drop>(
+    alloc: Global,
+    schedulers: &mut Vec<Scheduler<N, J, S>>,
+    thief: usize,
+) -> Result<(), AllocError>
+    requires thief { thief < length schedulers.old.items }
+    requires few { length schedulers.old.items ≤ all_parts }
+    requires before { AllAt (HasLent (length schedulers.old.items) thief none_yet) schedulers.old.items }
+    ensures count { OnOk result (length schedulers.new.items ≡ length schedulers.old.items) }
+    ensures equipped { OnOk result (AllAt (HasLent (length schedulers.old.items) (thief + 1) none_yet) schedulers.new.items) }
+{
+    let mut ways = Vec::new(alloc);
+    lend_from_above(schedulers, thief, &mut ways)?;
+    lend_from_below(schedulers, thief, &mut ways)?;
+    schedulers[thief].equip(ways);
+    Ok(())
 }
 
 // Each is told how many there are.
@@ -101,7 +134,10 @@ fn unused_schedulers<N: RunNaming, J: Drop, S: Drop>(
     let mut schedulers = Vec::new(alloc);
     let mut index = 0;
     for worker in workers {
-        schedulers.push(unused_scheduler(alloc, worker, index))?;
+        let Ok(()) = schedulers.push(unused_scheduler(alloc, worker, index)) else {
+            drop(schedulers);
+            return Err(AllocError);
+        };
         index += 1;
     }
     Ok(schedulers)
@@ -146,7 +182,7 @@ fn lend_from_above<N: RunNaming, J: Drop, S: Drop>(
     ensures ways { OnOk result (ways.new.items ≡ ways.old.items ++ map fresh_victim (numbers_from (thief + 1) (length schedulers.old.items - 1 - thief))) }
 {
     for index in thief + 1..schedulers.len() {
-        ways.push(schedulers[index].lend()?)?;
+        lend_way(&mut schedulers[index], ways)?;
     }
     Ok(())
 }
@@ -165,7 +201,22 @@ fn lend_from_below<N: RunNaming, J: Drop, S: Drop>(
     ensures ways { OnOk result (ways.new.items ≡ ways.old.items ++ map fresh_victim (numbers_from 0 thief)) }
 {
     for index in 0..thief {
-        ways.push(schedulers[index].lend()?)?;
+        lend_way(&mut schedulers[index], ways)?;
     }
+    Ok(())
+}
+
+// A way to a scheduler's deque is put at the end of the list.
+fn lend_way<N: RunNaming, J: Drop, S: Drop>(
+    scheduler: &mut Scheduler<N, J, S>,
+    ways: &mut Vec<Victim<N, J, S>>,
+) -> Result<(), AllocError>
+    requires some { 1 < scheduler.old.own.parts }
+    requires unused { scheduler.old ≡ unused scheduler.old.own.index scheduler.old.own.parts scheduler.old.others }
+    ensures way { OnOk result (ways.new.items ≡ ways.old.items ++ fresh_victim scheduler.old.own.index ∷ []) }
+    ensures lent { OnOk result (scheduler.new ≡ record scheduler.old { own = record scheduler.old.own { parts = scheduler.old.own.parts - 1 } }) }
+{
+    let way = scheduler.lend()?;
+    ways.push(way)?;
     Ok(())
 }

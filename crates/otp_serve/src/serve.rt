@@ -5,7 +5,6 @@ ghost use Rattle.otp_file.specs.Trees.{tables_of};
 ghost use Rattle.otp_jobs.specs.Plans.{plan_fault, supervisors_of};
 ghost use Rattle.otp_jobs.specs.Runs.{IsOfRun, IsTooManyOnly, line_of, run_fault};
 ghost use Rattle.otp_open.specs.Plans.{HaveBodies, plans_of};
-ghost use Rattle.otp_run.specs.Rule.{all_parts};
 ghost use Rattle.otp_serve.specs.Serves.{served_text};
 ghost use Rattle.otp_close.specs.Closes.{HaveBegun, IsReportOf};
 

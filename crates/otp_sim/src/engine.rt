@@ -1,6 +1,6 @@
 //! The engine of `sim`: lines in, orders out.
 
-ghost use Rattle.std.specs.Prelude.{◌≡◌, ◌+◌, ◌<◌, IfOk, None, vec_len};
+ghost use Rattle.std.specs.Prelude.{◌≡◌, ◌+◌, ◌<◌, IfOk, vec_len};
 ghost use Rattle.otp_sim.specs.Devices.{devices};
 ghost use Rattle.otp_sim.specs.Runs.{Writes, LastWrites, with_text};
 ghost use Rattle.otp_sim.specs.Sim.{opened};

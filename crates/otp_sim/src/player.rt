@@ -1,14 +1,11 @@
 //! A supervisor's core that is played: lines are turned into events, and orders into text.
 
-ghost use Rattle.std.specs.Prelude.{ℕ, [], ◌≡◌, ◌+◌, ◌<◌, ◌≤◌, ◌++◌, None, Some, OnOk, OnErr, IfOk, IfSome, is_some, option_copied, option_map};
+ghost use Rattle.std.specs.Prelude.{[], ◌≡◌, ◌+◌, ◌<◌, ◌≤◌, ◌++◌, None, Some, OnOk, IfOk, IfSome, is_some, option_copied, option_map};
 ghost use Rattle.otp_text.specs.Lines.{IsTimely, line_with};
 ghost use Rattle.otp_text.specs.Words.{words_left};
 ghost use Rattle.otp_text.specs.declared.line.Line.TheVariants as said;
-ghost use Rattle.std.specs.List.{flat_map};
-ghost use Rattle.otp_core.specs.View.{state_of, stored_state};
-ghost use Rattle.otp_rules.specs.Needs.{needs_number};
-ghost use Rattle.otp_rules.specs.Run.{reply_of};
-ghost use Rattle.otp_sim.specs.Sim.{begin_form, begin_line, event_of, happen, is_due, next_kind, opened, orders_text, take_read, ticked, told_by, went_on};
+ghost use Rattle.otp_core.specs.View.{stored_state};
+ghost use Rattle.otp_sim.specs.Sim.{begin_form, begin_line, happen, is_due, next_kind, opened, orders_text, take_read, ticked, told_by, went_on};
 ghost use Rattle.otp_sim.specs.Devices.{Begins};
 ghost use Rattle.otp_sim.specs.Runs.{with_text};
 ghost use Rattle.otp_sim.specs.declared.driven.TheConstants.{LINE_LIMIT};

@@ -1,6 +1,6 @@
 //! Serving the lines of the input as it comes.
 
-ghost use Rattle.std.specs.Prelude.{◌≡◌, ◌==◌, ◌∷◌, ℕ, List, ◌+◌, ◌<◌, ◌≤◌, ◌++◌, [], length, position, OnOk, OnErr, IfSome};
+ghost use Rattle.std.specs.Prelude.{◌≡◌, ◌==◌, ◌∷◌, ℕ, List, ◌+◌, ◌<◌, ◌≤◌, ◌++◌, [], length, position, OnOk, IfSome};
 ghost use Rattle.otp_sim.specs.Runs.{with_text, LineEnds, Played, PieceEnds, RanFrom, RanLine, NoEnd};
 ghost use Rattle.otp_sim.specs.declared.driven.TheConstants.{LINE_LIMIT};
 

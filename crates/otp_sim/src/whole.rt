@@ -1,7 +1,5 @@
 //! Events that are printed whole or not at all.
 
-ghost use Rattle.std.specs.Prelude.{◌≡◌, OnErr};
-
 use crate::driven::{Driven, Stop};
 use crate::player::Player;
 use std::alloc::AllocError;

@@ -1,6 +1,6 @@
 //! Texts in columns.
 
-ghost use Rattle.std.specs.Prelude.{◌≡◌, ◌++◌, OnOk, length, replicate};
+ghost use Rattle.std.specs.Prelude.{◌≡◌, ◌++◌, OnOk, replicate};
 ghost use Rattle.otp_stops.specs.Columns.{at_left, at_right, clip};
 
 use std::alloc::AllocError;

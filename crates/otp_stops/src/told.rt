@@ -1,6 +1,6 @@
 //! The longest stop of a tree as it is told.
 
-ghost use Rattle.std.specs.Prelude.{◌≡◌, ◌≤◌, ◌++◌, IfOk, IfSome, OnOk, Some, option_map, unwrap_or};
+ghost use Rattle.std.specs.Prelude.{◌≡◌, ◌≤◌, ◌++◌, IfSome, OnOk, Some, option_map, unwrap_or};
 ghost use Rattle.otp_spec.specs.declared.limits.TheConstants.{MAX_READING};
 ghost use Rattle.otp_stops.specs.Stops.{count_endless, ended_after, first_endless, is_endless, is_endless_by, later, sum_from};
 ghost use Rattle.otp_stops.specs.Told.{TellsStops, all_text, endless_text, for_ever_text, head_text, is_none, line_text, lines_text, more_text, name_text, no_limit_text, others_text, shutdown_text, table_if, time_text, titles, total_text, until_text};

@@ -1,6 +1,6 @@
 //! What would survive crashes of a child.
 
-ghost use Rattle.std.specs.Prelude.{◌≡◌, ◌≤◌, ◌^◌, IfOk};
+ghost use Rattle.std.specs.Prelude.{◌≤◌, ◌^◌, IfOk};
 ghost use Rattle.otp_limits.specs.Fates.{Plays};
 ghost use Rattle.otp_trial.specs.declared.clock.Clock.TheVariants.{Milliseconds};
 ghost use Rattle.otp_spec.specs.declared.limits.TheConstants.{MAX_INTENSITY};

@@ -1,6 +1,6 @@
 //! Times as words: the interval between crashes, and those that the program's options name.
 
-ghost use Rattle.std.specs.Prelude.{◌≡◌, ◌≤◌, option_map};
+ghost use Rattle.std.specs.Prelude.{◌≡◌, ◌≤◌};
 ghost use Rattle.std.specs.Str.{bytes_eq};
 ghost use Rattle.otp_suggest.specs.Times.{ends_with, split, time_in, time_of};
 

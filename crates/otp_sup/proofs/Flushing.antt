@@ -1,14 +1,12 @@
 -- Where the bodies are once an order was sent, at first, and once a body was had back.
-use Rattle.std.specs.Prelude.{◌≡◌, ℕ, ◌<◌, ◌≤◌, ◌==◌, ◌++◌, ◌||◌, not, Bool, true, false, List, [], ◌∷◌, Option, None, Some, Contains, IsSome, refl, is_some, length, position, unwrap_or, count_by}
-use Prim.Native.Nat.{zero, suc}
+use Rattle.std.specs.Prelude.{◌≡◌, ℕ, ◌<◌, ◌≤◌, ◌==◌, ◌++◌, ◌||◌, not, Bool, true, false, List, [], ◌∷◌, Option, None, Some, Contains, IsSome, refl, is_some, position, unwrap_or}
 use Rattle.std.specs.List.{cons_option, list_any}
-use Rattle.std.proofs.Common.{◌∙◌, ap, sym, subst, arith, cond, rules, ⊎_elim, get_or}
+use Rattle.std.proofs.Common.{◌∙◌, ap, sym, subst, arith, rules, ⊎_elim, get_or}
 use Rattle.std.proofs.lemmas.Bool.{false≢true, cases_Bool, eqb-true, eq-eqb, and_parts}
-use Rattle.std.proofs.lemmas.List.Sums.{sum_by-cons}
 use Rattle.otp_table.specs.declared.row.Row.{Row}
 use Rattle.otp_table.specs.declared.row.RowState.{RowState}
 use Rattle.otp_table.specs.declared.row.RowState.TheVariants.{Undefined, Starting, Up, Asked, Killed, Restarting}
-use Rattle.otp_table.specs.Rows.{has_process, has_slot, row_has}
+use Rattle.otp_table.specs.Rows.{has_process, row_has}
 use Rattle.otp_rules.specs.declared.event.Effect.{Effect}
 use Rattle.otp_rules.specs.declared.event.Waiting.{Waiting}
 use Rattle.otp_rules.specs.Homes.{is_ended, is_home}

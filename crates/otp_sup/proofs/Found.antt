@@ -11,7 +11,6 @@ use Rattle.otp_table.specs.declared.row.Row.{Row}
 use Rattle.otp_table.specs.declared.row.RowState.{RowState}
 use Rattle.otp_table.specs.declared.row.RowState.TheVariants.{Undefined, Starting, Up, Asked, Killed, Restarting}
 use Rattle.otp_table.specs.Rows.{has_process, has_slot, row_has}
-use Rattle.otp_rules.specs.Alive.{is_told_by}
 use Rattle.otp_rules.specs.Fit.{is_starting}
 use Rattle.otp_rules.specs.Slots.{AreSlotted}
 use Rattle.otp_rules.proofs.Counting.{found}

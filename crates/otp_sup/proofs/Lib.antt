@@ -16,3 +16,4 @@ pub mod Published
 pub mod Told
 pub mod Turning
 pub mod Unsent
+pub mod Staying

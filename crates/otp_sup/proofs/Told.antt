@@ -1,5 +1,5 @@
 -- The ends that came with what a history took, as it goes on.
-use Rattle.std.proofs.Common.{◌≡◌, ◌∙◌, ℕ, suc, ◌+◌, ◌-◌, ◌<◌, ◌≤◌, Bool, true, false, List, [], ◌∷◌, ◌++◌, Option, None, Some, refl, sym, ap, subst, arith, length, drop, append-nil, append_assoc, length-append, length-drop}
+use Rattle.std.proofs.Common.{◌≡◌, ◌∙◌, ℕ, suc, ◌+◌, ◌-◌, ◌<◌, ◌≤◌, Bool, true, false, List, [], ◌∷◌, ◌++◌, Option, None, Some, refl, sym, ap, arith, length, drop, append-nil, append_assoc, length-append, length-drop}
 use Rattle.std.specs.Prelude.{is_some, nat_lt, if◌then◌else◌}
 use Rattle.std.specs.List.{cons_option}
 use Rattle.std.proofs.lemmas.List.{length-map}
@@ -14,7 +14,7 @@ use Rattle.otp_bodies.specs.declared.letter.Message.{Message}
 use Rattle.otp_bodies.specs.declared.told.ToldEnd.{ToldEnd}
 use Rattle.otp_bodies.specs.Ends.{told_with}
 use Rattle.otp_bodies.specs.Messages.{items_in, message}
-use Rattle.otp_office.specs.Events.{Happened, Readied, item_of, items_of}
+use Rattle.otp_office.specs.Events.{Happened, item_of, items_of}
 use Rattle.otp_office.specs.Offices.{OfficeView}
 use Rattle.otp_sup.specs.Told.{ends_told_in, told_along, told_at}
 

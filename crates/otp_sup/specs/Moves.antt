@@ -1,8 +1,9 @@
 -- What an event does with the bodies of a supervisor's children: which comes home, which a new child gets, which are let go
 -- (own). A body comes home with the note of its process's end.
-use Rattle.std.specs.Prelude.{◌≡◌, ℕ, Bool, false, not, ◌&&◌, List, [], ◌∷◌, ◌++◌, Option, Some, None, is_some, slice_get, if◌then◌else◌}
+use Rattle.std.specs.Prelude.{◌≡◌, ℕ, Bool, false, true, not, ◌&&◌, List, [], ◌∷◌, ◌++◌, Option, Some, None, is_some, slice_get, if◌then◌else◌}
 use Rattle.std.specs.List.{list_any}
 use Rattle.otp_reason.specs.declared.note.Note.{Note}
+use Rattle.otp_reason.specs.declared.note.Note.TheVariants as note
 use Rattle.otp_table.specs.declared.row.Row.{Row}
 use Rattle.otp_table.specs.Rows.{free_slot, has_slot}
 use Rattle.otp_rules.specs.declared.event.Item.{Item}
@@ -88,12 +89,26 @@ may_seat s kind.Stopped = false
 abbrev pub free_for : State → Kind → Option ℕ
 free_for s k = if may_seat s k then Some (free_slot s.rows) else None
 
+abbrev pub is_up_note : Note → Bool
+is_up_note (note.Up _) = true
+is_up_note _ = false
+
+-- the event takes a note that a process is up
+abbrev pub is_up : Kind → Bool
+is_up (kind.Took (item.Note x)) = is_up_note x
+is_up _ = false
+
+-- no child goes at the event, unless the supervisor ends: a process is up, and nothing waits
+abbrev pub keeps_children : State → Kind → Bool
+keeps_children s k = is_up k && not (is_any_waiting s)
+
 -- what an event of this kind is about to do with bodies, as far as it can be known before it
 pub record IsPlan (s : State) (k : Kind) (plan : Plan) : Type 0 where
   pub home : plan.home ≡ home_by s k
   pub free : plan.free ≡ free_for s k
   pub waits : plan.waits ≡ is_waited_for s
   pub taken_up : plan.is_taken_up ≡ is_taken_up s
+  pub stays : plan.keeps_children ≡ keeps_children s k
 
 -- the bodies after an event from one state to another, before those of children that are gone are let go
 abbrev pub moved : State → List Row → Kind → List Kept → List Kept

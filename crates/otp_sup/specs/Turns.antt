@@ -5,7 +5,6 @@ use Rattle.std.specs.List.{list_any}
 use Rattle.otp_rules.specs.declared.event.Item.{Item}
 use Rattle.otp_rules.specs.declared.event.Kind.{Kind}
 use Rattle.otp_rules.specs.declared.event.Kind.TheVariants as kind
-use Rattle.otp_rules.specs.declared.work.Phase.TheVariants.{Ended}
 use Rattle.otp_rules.specs.State.{is_over}
 use Rattle.otp_rules.specs.declared.call.Reply.{Reply}
 use Rattle.otp_core.specs.declared.reply.ReplyAnswer.{ReplyAnswer}

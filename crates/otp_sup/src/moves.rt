@@ -5,7 +5,7 @@ ghost use Rattle.otp_core.specs.View.{state_of};
 ghost use Rattle.otp_rules.specs.State.{State, is_over};
 ghost use Rattle.otp_rules.specs.Waits.{starts_waiting};
 ghost use Rattle.otp_table.specs.declared.row.Row.{Row};
-ghost use Rattle.otp_bodies.specs.Bodies.{CanComeBack, bodies_in, calls_waiting, came_for, count_away, count_home, has_body, is_at_home, left_home, place_of_call, taken_up};
+ghost use Rattle.otp_bodies.specs.Bodies.{AreThere, CanComeBack, bodies_in, calls_waiting, came_for, count_away, count_home, has_body, is_at_home, left_home, place_of_call, taken_up};
 ghost use Rattle.otp_sup.specs.Moves.{IsPlan, bodies_after, brings_body, given_among, let_go, moved};
 ghost use Rattle.otp_bodies.specs.declared.bodies.Kept.{Kept};
 ghost use Rattle.otp_bodies.specs.declared.bodies.Origin.TheVariants as origin;
@@ -16,6 +16,7 @@ ghost use Rattle.otp_core.specs.Full.{is_full};
 
 use crate::plans::{Plan, plan_of, slot_given};
 use otp_bodies::Bodies;
+use otp_laws::laws::up_keeps_children;
 use otp_office::Office;
 use otp_rules::{Item, Kind, laws, lives};
 use otp_signals::{Words, WordsNaming};
@@ -38,6 +39,7 @@ pub(crate) fn happen<N: WordsNaming, B: Drop>(
     requires carries { is_some body ≡ brings_body kind }
     requires over { IsOpening kind → is_over (state_of office.old.core).phase ≡ true }
     requires one_body { (slot : ℕ) → count_home slot bodies.old.kept + count_away slot bodies.old.kept ≤ 1 }
+    requires there { AreThere (state_of office.old.core).rows bodies.old.kept }
     ensures happened { Happened reading kind office.old office.new }
     ensures bodies { bodies.new.kept ≡ bodies_after (state_of office.old.core) (state_of office.new.core) kind bodies.old.kept }
     ensures count { bodies_in bodies.new.kept ≡ bodies_in bodies.old.kept + one_if (brings_body kind) }
@@ -56,12 +58,13 @@ pub(crate) fn happen<N: WordsNaming, B: Drop>(
     lives::processes_stay();
     lives::ended_has_no_rows();
     lives::processes_lived();
+    up_keeps_children();
     office.keeps_rules();
     let plan = plan_of(office, &kind);
     office.happen(words, reading, kind);
     let slot = slot_given(office, plan.free);
     move_bodies(bodies, &kind, &plan, slot, body);
-    let_go(bodies, office, &kind);
+    let_go(bodies, office, &kind, plan.keeps_children);
 }
 
 /// The body that the event brought goes where it belongs, and so does that of a call that was taken up.
@@ -126,8 +129,15 @@ fn take_up<B: Drop>(bodies: &mut Bodies<B>, is_taken_up: bool, slot: Option<usiz
     }
 }
 
-/// Bodies of children that are gone are whose they were before; at an opening all children are new.
-fn let_go<N: WordsNaming, B: Drop>(bodies: &mut Bodies<B>, office: &Office<N>, kind: &Kind)
+/// Bodies of children that are gone are whose they were before; at an opening all children are new. Where none can have gone, unless
+/// the supervisor has ended, no row is looked at.
+fn let_go<N: WordsNaming, B: Drop>(
+    bodies: &mut Bodies<B>,
+    office: &Office<N>,
+    kind: &Kind,
+    keeps_children: bool,
+)
+    requires there { keeps_children ≡ true → is_over (state_of office.now.core).phase ≡ false → AreThere (state_of office.now.core).rows bodies.old.kept }
     ensures { bodies.new.kept ≡ let_go (state_of office.now.core) kind.now bodies.old.kept }
 {
     let rows = office.rows();
@@ -135,6 +145,8 @@ fn let_go<N: WordsNaming, B: Drop>(bodies: &mut Bodies<B>, office: &Office<N>, k
     if let Kind::Opened(_) = kind {
         bodies.settle(&[], is_any_waiting);
         bodies.open(rows);
+    } else if keeps_children && !office.has_ended() {
+        bodies.settle_calls(rows, is_any_waiting);
     } else {
         bodies.settle(rows, is_any_waiting);
     }

@@ -1,7 +1,7 @@
 //! What an event is about to do with bodies, as far as it can be known before it.
 ghost use Rattle.std.specs.Prelude.{◌≡◌};
 ghost use Rattle.otp_core.specs.View.{state_of};
-ghost use Rattle.otp_sup.specs.Moves.{IsPlan, free_for, given_among, home_of, is_start_item, is_start_waiting, is_taken_up, is_waited_for, may_seat};
+ghost use Rattle.otp_sup.specs.Moves.{IsPlan, free_for, given_among, home_of, is_start_item, is_start_waiting, is_taken_up, is_waited_for, keeps_children, may_seat};
 
 use crate::client::is_start_call;
 use crate::rows::{has_slot, slot_heeding};
@@ -23,6 +23,8 @@ pub(crate) struct Plan {
     pub waits: bool,
     /// The first start call that waits is taken up.
     pub is_taken_up: bool,
+    /// No child goes, unless the supervisor ends.
+    pub keeps_children: bool,
 }
 
 /// Whether a call that is taken now waits.
@@ -71,6 +73,16 @@ fn free_for(core: &Core, kind: &Kind) -> Option<usize>
     }
 }
 
+/// Whether no child goes at an event, unless the supervisor ends: a process is up, and nothing waits.
+fn keeps_children(core: &Core, kind: &Kind) -> bool
+    ensures { result ≡ keeps_children (state_of core.now) kind.now }
+{
+    match kind {
+        Kind::Took(Item::Note(Note::Up(_))) => !core.has_waiting(),
+        _ => false,
+    }
+}
+
 /// What an event is about to do with bodies, as far as it can be known before it.
 pub(crate) fn plan_of<N: WordsNaming>(office: &Office<N>, kind: &Kind) -> Plan
     ensures { IsPlan (state_of office.now.core) kind.now result }
@@ -85,6 +97,7 @@ pub(crate) fn plan_of<N: WordsNaming>(office: &Office<N>, kind: &Kind) -> Plan
         free: free_for(core, kind),
         waits: is_waited_for(core),
         is_taken_up: is_taken_up(core),
+        keeps_children: keeps_children(core, kind),
     }
 }
 

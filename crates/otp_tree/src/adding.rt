@@ -1,5 +1,5 @@
 //! Supervisors are added to a running tree (supervisor, start_child/2, with a child that is a supervisor).
-ghost use Rattle.std.specs.Prelude.{◌≡◌, ◌⊎◌, ◌<◌, ◌≤◌, IfErr, IfOk, OnOk, length};
+ghost use Rattle.std.specs.Prelude.{◌≡◌, ◌<◌, IfErr, IfOk, OnOk, length};
 ghost use Rattle.otp_spec.specs.declared.limits.TheConstants.{MAX_TABLES};
 ghost use Rattle.otp_open.specs.Adds.{AreNear, AreWithin, Fit};
 ghost use Rattle.otp_open.specs.Plans.{HaveBodies};
@@ -47,7 +47,8 @@ impl<N: SupNaming, J: Drop, S: Drop> System<N, J, S> {
     ///
     /// # Errors
     ///
-    /// See [`AddFault`]. No supervisor was added, and the plans come back.
+    /// See [`AddFault`]. No supervisor was added, and the plans come back. At [`AddFault::Occupied`] alone some may have
+    /// been added, and the plans may be gone.
     pub fn add_tree<R: Wait>(
         &self,
         rt: &R,

@@ -1,5 +1,5 @@
 //! Supervisors that a tree gets while it runs: how many there are, under one lock, and which of them each call added.
-ghost use Rattle.std.specs.Prelude.{◌≡◌, ◌+◌, ◌<◌, ◌≤◌, ◌^◌, ℕ, IfNone, IfOk, IfSome, IsTrue, None, OnOk, is_some, true};
+ghost use Rattle.std.specs.Prelude.{◌≡◌, ◌+◌, ◌<◌, ◌≤◌, ◌^◌, ℕ, IfNone, IfOk, IfSome, IsTrue, None, is_some, true};
 
 use otp_sup::PlanNaming;
 use std::alloc::{AllocError, Global};

@@ -1,6 +1,6 @@
 //! A tree is opened: its parts without a name first, then the tree under a name. All memory is taken while the plans are only lent, so
 //! that a refusal gives them back as they were.
-ghost use Rattle.std.specs.Prelude.{◌≡◌, ◌+◌, ◌*◌, ◌<◌, ◌≤◌, ℕ, None, [], IfErr, IfOk, IfSome, OnOk, length, is_some, true, vec_capacity};
+ghost use Rattle.std.specs.Prelude.{◌≡◌, ◌+◌, ◌*◌, ◌<◌, ◌≤◌, ℕ, None, [], IfErr, IfOk, OnOk, length, is_some, true, vec_capacity};
 ghost use Rattle.otp_spec.specs.declared.limits.TheConstants.{MAX_TABLES};
 ghost use Rattle.otp_close.specs.Closes.{IsReached, all_senders};
 ghost use Rattle.otp_close.specs.Partings.{schedulers_of};
@@ -291,7 +291,10 @@ impl<J: Drop, S: Drop> Parts<J, S> {
         ensures fault { IfErr result (λ back. IsOpenFault self.plans.items back.fault) }
         ensures back { IfErr result (λ back. back.plans.items ≡ self.plans.items) }
         ensures passes { IfOk result (λ o. CanRead (length self.inboxes.items) o.hands.items) }
+        ensures hands { IfOk result (λ o. AreOpened (root_ticket (length self.inboxes.items)) (length self.queue) o.hands.items) }
         ensures complete { IfOk result (λ o. 0 < length self.queue → IsAll (schedulers_of o.hands.items) × IsReached o.system.tables o.client (all_senders o.client o.hands.items)) }
+        ensures own { IfOk result (λ o. length o.passes.items ≡ length self.inboxes.items) }
+        ensures unasked { IfOk result (λ o. o.client.owner.posts ≡ []) }
     {
         let Ok(growth) = Growth::open(alloc, opened) else {
             return Err(Unopened::for_memory(self.into_plans()));

@@ -1,6 +1,6 @@
 //! The supervisors of a tree, each with its path.
 
-ghost use Rattle.std.specs.Prelude.{◌≡◌, ◌++◌, [], ◌∷◌, true, IfOk, IfSome, OnOk, map};
+ghost use Rattle.std.specs.Prelude.{◌≡◌, ◌++◌, [], ◌∷◌, true, IfOk, OnOk, map};
 ghost use Rattle.otp_trial.specs.Played.{AddsTree, IsPlanted, fresh, unplayed};
 
 use crate::seat::Seat;

@@ -1,6 +1,6 @@
 //! A supervisor of a tree that is tried.
 
-ghost use Rattle.std.specs.Prelude.{◌≡◌, ◌≤◌, ◌^◌, [], false, length, nat_lt, IfOk, OnOk};
+ghost use Rattle.std.specs.Prelude.{◌≡◌, ◌≤◌, [], false, length, nat_lt, IfOk, OnOk};
 ghost use Rattle.otp_core.specs.View.{new_core, state_of};
 ghost use Rattle.otp_rules.specs.Ends.{last_stamps};
 ghost use Rattle.otp_rules.specs.Next.{idle_kind, next_kind};

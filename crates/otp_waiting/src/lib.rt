@@ -2,7 +2,7 @@
 //!
 //! - `waiting.rt`: workers and bridges that wait, and those that want a turn and stand aside. Both are parked (`parked.rt`); in each
 //!   turn some of them are looked at, whether they were told something (`looks.rt`).
-//! - `resting.rt`: supervisors whose inboxes are empty.
+//! - `resting.rt`: supervisors that found nothing to do.
 //! - `around.rt`: what the hand knows of its own deque and of others.
 #![tactic(auto)]
 

@@ -1,10 +1,33 @@
-use Rattle.std.proofs.Common.{arith, ℕ, ◌+◌, ◌-◌, ◌<◌, ◌∙◌, ap, min, length, length-set}
+use Rattle.std.proofs.Common.{arith, ℕ, ◌≡◌, ◌+◌, ◌-◌, ◌<◌, ◌++◌, ◌∙◌, ap, sym, map, min, refl, length, length-set}
+use Rattle.std.proofs.lemmas.List.{append-nil}
 use Rattle.otp_run.specs.Deques.{fresh_victim}
-use Rattle.otp_run.proofs.Shares.{lent_more, one_unused, one_index, ways_more, lent_by_then}
+use Rattle.otp_run.specs.Opens.{none_yet}
+use Rattle.otp_run.specs.Schedulers.{numbers_from}
+use Rattle.otp_run.proofs.Shares.{lent_more, one_spare, one_unused, one_index, ways_more, lent_by_then}
 use Rattle.otp_run.proofs.queue.lend_from_above.Goals as goal
 
-pub lend-requires-clause-unused : goal.lend-requires-clause-unused
-lend-requires-clause-unused g c =
+pub loop-index-init : goal.loop-index-init
+loop-index-init g c =
+    let thief : ℕ = c.args.thief in
+    let none : thief + 1 - 1 - thief ≡ 0 = omega arith in (
+      refl,
+      lent_by_then _ thief none_yet (λ k. min (min 1 (k - thief)) (thief + 1 - k)) c.args.schedulers.now.items (λ j within. omega arith) c.requires.before,
+      sym (append-nil c.args.ways.now.items) ∙ ap (λ n. c.args.ways.now.items ++ map fresh_victim (numbers_from (thief + 1) n)) (sym none),
+    )
+
+pub lend_way-requires-clause-some : goal.lend_way-requires-clause-some
+lend_way-requires-clause-some g c =
+    let test = c.loop-index-test.true in
+    let low = c.loop-index.auto.index in
+    let one = c.requires.thief in
+    let few = c.requires.few in
+    let many = c.loop-index.invariant.0 in
+    let size = c.len-index-end.ensures in
+    let ok = c.args.schedulers.now.ok in
+    one_spare (length c.args.schedulers.now.items) c.args.thief c.loop-index.index c.loop-index.schedulers.items c.index_mut.result.now c.index_mut.result.now (omega arith) c.index_mut.ensures.value (λ k. min (min 1 (k - c.args.thief)) (c.loop-index.index - k)) (omega arith) c.loop-index.invariant.1
+
+pub lend_way-requires-clause-unused : goal.lend_way-requires-clause-unused
+lend_way-requires-clause-unused g c =
     let test = c.loop-index-test.true in
     let one = c.requires.thief in
     let many = c.loop-index.invariant.0 in
@@ -27,11 +50,11 @@ loop-index-preserved g c =
     let lent : ℕ → ℕ = λ k. min (min 1 (k - thief)) (i - k) in
     let lent' : ℕ → ℕ = λ k. min (min 1 (k - thief)) (i + 1 - k) in
     let inside : i < length c.loop-index.schedulers.items = omega arith in
-    let lends = c.in_ok-lend.ensures {u = tt} in (
-      length-set c.loop-index.schedulers.items i c.lend.new.self ∙ many,
-      lent_more count thief i c.loop-index.schedulers.items c.index_mut.result.now c.lend.new.self inside c.index_mut.ensures.value lent lent' lends.lent (omega arith) (omega arith) (λ j apart. omega arith) c.loop-index.invariant.1,
-      ways_more (thief + 1) (i - 1 - thief) _ i _ _ _ _ c.loop-index.invariant.2 ((c.in_ok-push.ensures {u = tt}).items)
-          (lends.victim ∙ ap fresh_victim (one_index count thief i c.loop-index.schedulers.items c.index_mut.result.now c.lend.new.self inside c.index_mut.ensures.value lent c.loop-index.invariant.1))
+    let lends = c.in_ok-lend_way.ensures {u = tt} in (
+      length-set c.loop-index.schedulers.items i c.lend_way.new.scheduler ∙ many,
+      lent_more count thief i c.loop-index.schedulers.items c.index_mut.result.now c.lend_way.new.scheduler inside c.index_mut.ensures.value lent lent' lends.lent (omega arith) (omega arith) (λ j apart. omega arith) c.loop-index.invariant.1,
+      ways_more (thief + 1) (i - 1 - thief) _ i _ _ _ _ c.loop-index.invariant.2 lends.way
+          (ap fresh_victim (one_index count thief i c.loop-index.schedulers.items c.index_mut.result.now c.lend_way.new.scheduler inside c.index_mut.ensures.value lent c.loop-index.invariant.1))
           (omega arith) (omega arith),
     )
 
@@ -44,3 +67,18 @@ returns-clause-lent g c =
     let ok = c.args.schedulers.now.ok in
     let many = c.loop-index.invariant.0 in
     lent_by_then _ thief _ _ c.loop-index.schedulers.items (λ j within. omega arith) c.loop-index.invariant.1
+
+pub returns-clause-count : goal.returns-clause-count
+returns-clause-count g c = c.loop-index.invariant.0
+
+pub returns-clause-ways : goal.returns-clause-ways
+returns-clause-ways g c =
+    let thief : ℕ = c.args.thief in
+    let test = c.loop-index-test.false in
+    let low = c.loop-index.auto.index in
+    let high = c.loop-index.auto.index-end in
+    let one = c.requires.thief in
+    let size = c.len-index-end.ensures in
+    let ok = c.args.schedulers.now.ok in
+    let last : c.loop-index.index - 1 - thief ≡ length c.args.schedulers.now.items - 1 - thief = omega arith in
+    c.loop-index.invariant.2 ∙ ap (λ n. c.args.ways.now.items ++ map fresh_victim (numbers_from (thief + 1) n)) last

@@ -1,4 +1,4 @@
-use Rattle.std.proofs.Common.{◌≡◌, ◌<◌, ◌≤◌, ◌++◌, ◌∷◌, [], ℕ, Bool, List, Option, Some, ap, arith, get_or, length, sym, true, ◌∙◌}
+use Rattle.std.proofs.Common.{◌≡◌, ◌<◌, ◌≤◌, ◌++◌, ◌∷◌, [], ℕ, Bool, List, Option, ap, arith, get_or, length, sym, true, ◌∙◌}
 use Rattle.std.specs.Prelude.{if◌then◌else◌, is_some}
 use Rattle.otp_bodies.specs.Bodies.{came_for, count_away, is_away, move_first, place_without_line, stray}
 use Rattle.otp_bodies.specs.declared.bodies.Kept.{Kept}

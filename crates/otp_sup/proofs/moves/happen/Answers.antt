@@ -7,6 +7,8 @@ use Rattle.otp_sup.specs.Facts.{HasBodies}
 use Rattle.otp_sup.proofs.Calls.{calls_happened}
 use Rattle.otp_sup.proofs.Homes.{Laws, bodies_happened}
 use Rattle.otp_sup.proofs.CountAfter.{count_after}
+use Rattle.otp_sup.proofs.Staying.{still_there}
+use Rattle.otp_bodies.specs.Bodies.{AreThere}
 use Rattle.otp_sup.proofs.moves.happen.Goals as goal
 
 pub returns-clause-bodies : goal.returns-clause-bodies
@@ -49,3 +51,13 @@ returns-clause-homes g c = λ same has.
     } in
     let Has : List Kept → Type 0 = λ l. HasBodies c.happen.new.self l in
     subst Has (sym is) (bodies_happened laws c.args.office.now c.happen.new.self c.args.reading c.args.kind c.args.bodies.now.kept c.keeps_rules.ensures c.happen.ensures c.requires.outbox c.requires.over same has)
+
+pub let_go-requires : goal.let_go-requires
+let_go-requires g c =
+    let s = state_of c.args.office.now.core in
+    let later = state_of c.happen.new.self.core in
+    record {
+      there = λ keeps runs.
+          subst (λ (l : List Kept). AreThere later.rows l) (sym (c.move_bodies.ensures s later.rows c.plan_of-plan.ensures c.slot_given-slot.ensures))
+          (still_there c.runs_are_joined.ensures.one_more c.up_keeps_children.ensures c.args.office.now c.happen.new.self c.args.reading c.args.kind c.args.bodies.now.kept c.happen.ensures (sym c.plan_of-plan.ensures.stays ∙ keeps) runs c.requires.there);
+    }
