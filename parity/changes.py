@@ -256,7 +256,7 @@ def replay(tree, numbers):
         (cases / f"change{number}").write_text(f"{number}\n")
         (cases / f"change{number}.args").write_text(files)
     data = [word for file in files.split() for word in ("--data", f"{file}=data/{file}")]
-    done = subprocess.run(["rt", "try", "--seconds", "600", *data, "--cases", str(cases)], cwd=crate, capture_output=True, text=True,
+    done = subprocess.run([str(ROOT / "tools/rt"), "try", "--seconds", "600", *data, "--cases", str(cases)], cwd=crate, capture_output=True, text=True,
                           env={**os.environ, "RT_ALLOW_C": "change"})
     caught = {}
     for part in re.split(r"^== change", done.stdout, flags=re.M)[1:]:
