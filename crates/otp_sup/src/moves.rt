@@ -16,7 +16,7 @@ ghost use Rattle.otp_core.specs.Full.{is_full};
 
 use crate::plans::{Plan, plan_of, slot_given};
 use otp_bodies::Bodies;
-use otp_laws::laws::up_keeps_children;
+use otp_laws::laws::{stop_keeps_children, up_keeps_children};
 use otp_office::Office;
 use otp_rules::{Item, Kind, laws, lives};
 use otp_signals::{Words, WordsNaming};
@@ -59,6 +59,7 @@ pub(crate) fn happen<N: WordsNaming, B: Drop>(
     lives::ended_has_no_rows();
     lives::processes_lived();
     up_keeps_children();
+    stop_keeps_children();
     office.keeps_rules();
     let plan = plan_of(office, &kind);
     office.happen(words, reading, kind);

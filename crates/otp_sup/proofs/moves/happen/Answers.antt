@@ -59,5 +59,5 @@ let_go-requires g c =
     record {
       there = λ keeps runs.
           subst (λ (l : List Kept). AreThere later.rows l) (sym (c.move_bodies.ensures s later.rows c.plan_of-plan.ensures c.slot_given-slot.ensures))
-          (still_there c.runs_are_joined.ensures.one_more c.up_keeps_children.ensures c.args.office.now c.happen.new.self c.args.reading c.args.kind c.args.bodies.now.kept c.happen.ensures (sym c.plan_of-plan.ensures.stays ∙ keeps) runs c.requires.there);
+          (still_there c.runs_are_joined.ensures.one_more c.up_keeps_children.ensures c.stop_keeps_children.ensures c.args.office.now c.happen.new.self c.args.reading c.args.kind c.args.bodies.now.kept c.happen.ensures (sym c.plan_of-plan.ensures.stays ∙ keeps) runs c.requires.there);
     }
