@@ -19,6 +19,7 @@ use Rattle.otp_laws.specs.Stays.{keeps_row}
 use Rattle.otp_bodies.specs.declared.bodies.Kept.{Kept}
 use Rattle.otp_bodies.specs.declared.bodies.Origin.TheVariants as origin
 use Rattle.otp_bodies.specs.Letters.{carries_body, is_end_note}
+use Rattle.otp_bodies.specs.Loose.{is_with_call}
 use Rattle.otp_sup.specs.declared.plans.Plan.{Plan}
 use Rattle.otp_bodies.specs.Bodies.{came_for, opened, place_of_call, settled, taken_up}
 use Rattle.otp_office.specs.Events.{is_any_waiting}
@@ -102,6 +103,10 @@ is_kept_at s (note.Exit p _) = is_some s.follows && keeps_row p s.rows
 abbrev pub keeps_children : State → Kind → Bool
 keeps_children s (kind.Took (item.Note x)) = is_kept_at s x && not (is_any_waiting s)
 keeps_children s _ = false
+
+-- where nothing waits, no body waits with its call
+abbrev pub NoneWaits : State → List Kept → Type 0
+NoneWaits s kept = is_any_waiting s ≡ false → list_any is_with_call kept ≡ false
 
 -- what an event of this kind is about to do with bodies, as far as it can be known before it
 pub record IsPlan (s : State) (k : Kind) (plan : Plan) : Type 0 where
