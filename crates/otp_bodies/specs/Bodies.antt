@@ -211,9 +211,10 @@ is_own_place (origin.Spec j) place.Waiting = false
 is_own_place (origin.Spec j) place.Free = true
 is_own_place (origin.Spec j) (place.Away k) = j == k
 is_own_place (origin.Call _) at = true
-is_own_place origin.Nobody at = true
+is_own_place origin.Nobody at = not (is_waiting_place at)
 
--- a body that was handed in for a specification is no child's, or that of the child in the slot of the specification's place
+-- a body that was handed in for a specification is no child's, or that of the child in the slot of the specification's place; and one
+-- that waits with its call was brought by one
 abbrev pub is_own : Kept → Bool
 is_own b = is_own_place b.origin b.place
 

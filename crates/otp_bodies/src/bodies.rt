@@ -2,6 +2,7 @@
 ghost use Rattle.std.specs.Prelude.{◌≡◌, ℕ, ◌+◌, ◌<◌, ◌≤◌, ◌++◌, ◌∷◌, [], true, get_or, is_some, false, length, position, remove, slice_set, Bool, IfErr, IfOk, IfSome, IsTrue, MatchOption, None, OnOk, OnErr, Some};
 ghost use Rattle.std.specs.List.{list_any};
 ghost use Rattle.otp_bodies.specs.Bodies.{AreHere, AreThere, are_ready, come_home, came_for, count_given, handed_in, has_body, home_or_free, IsNew, is_at_home, is_away, is_here, is_left_of, is_stray, is_waiting, move_first, opened, place_of_call, place_without_line, put_home, settled, without_first, count_opened};
+ghost use Rattle.otp_bodies.specs.Loose.{is_with_call};
 ghost use Rattle.otp_bodies.specs.Slots.{AreBelow};
 ghost use Rattle.otp_bodies.specs.declared.bodies.Kept.{Kept};
 ghost use Rattle.otp_bodies.specs.declared.bodies.Origin.TheVariants as origin;
@@ -11,7 +12,7 @@ use crate::kept::{
     are_given, find_away, find_home, find_left, find_stray, find_waiting, home_or_free,
     is_any_from, is_any_out, is_away, open_items, place_of_call, settle_items,
 };
-use crate::loose::{find_home_at, is_alone_and_stays, is_any_with_call, only_at, only_loose};
+use crate::loose::{find_home_at, is_alone_and_stays, only_at, only_loose};
 use otp_spec::SupSpec;
 use otp_table::Row;
 use std::alloc::{AllocError, Global};
@@ -348,22 +349,12 @@ impl<B: Drop> Bodies<B> {
         self.only = only_loose(&self.kept);
     }
 
-    /// The same, where no child has gone: only the bodies of calls that wait may be let go. No rows are looked at, but that of the
-    /// only body that an event may let go, where that is known: then no other body is.
-    #[tactic(auto, using(crate::proofs::There::all_stay, crate::proofs::There::none_with_call))]
-    pub fn settle_calls(&mut self, rows: &[Row], is_any_waiting: bool)
-        requires below { AreBelow rows.now }
-        requires there { AreThere rows.now self.old.kept }
-        ensures { self.new.kept ≡ settled rows.now is_any_waiting self.old.kept }
-    {
-        if is_any_waiting
-            || is_alone_and_stays(&self.kept, self.only, rows, is_any_waiting)
-            || !is_any_with_call(&self.kept)
-        {
-            return;
-        }
-        self.settle(rows, is_any_waiting);
-    }
+    /// Where no child has gone and no body waits with its call, none is let go: they are settled as they stand, and none is looked at.
+    pub fn are_settled(&self, rows: &[Row], is_any_waiting: bool)
+        requires there { AreThere rows.now self.now.kept }
+        requires calls { list_any is_with_call self.now.kept ≡ false }
+        ensures { settled rows.now is_any_waiting self.now.kept ≡ self.now.kept }
+    {}
 
     /// At an opening each child, of these rows, has the body that was handed in for it.
     pub fn open(&mut self, rows: &[Row])

@@ -3,7 +3,7 @@
 ghost use Rattle.std.specs.Prelude.{◌≡◌, ◌+◌, ◌<◌, ◌≤◌, drop, length, position, get_or, IfSome, IsTrue};
 ghost use Rattle.std.specs.List.{list_any};
 ghost use Rattle.otp_bodies.specs.Bodies.{is_at_home, settled, stray};
-ghost use Rattle.otp_bodies.specs.Loose.{IsOnlyLoose, count_loose, is_loose, is_with_call, loose_at};
+ghost use Rattle.otp_bodies.specs.Loose.{IsOnlyLoose, count_loose, is_loose, loose_at};
 ghost use Rattle.otp_bodies.specs.declared.bodies.Kept.{Kept};
 
 use crate::bodies::{Kept, Place};
@@ -82,19 +82,6 @@ pub(crate) fn only_at(kept: &[Kept], only: Option<usize>, at: usize) -> Option<u
         return None;
     }
     Some(at)
-}
-
-/// Whether one of them waits with its call.
-pub(crate) fn is_any_with_call(kept: &[Kept]) -> bool
-    ensures { result ≡ list_any is_with_call kept.now }
-{
-    kept.iter().any(|one| is_with_call(one))
-}
-
-fn is_with_call(kept: &Kept) -> bool
-    ensures { result ≡ is_with_call kept.now }
-{
-    matches!(kept.place, Place::Waiting)
 }
 
 /// Whether a look at the only loose body tells that all stay where they are once these are the rows.

@@ -1,31 +1,35 @@
--- No row comes or goes at an Up where nothing waits: a row's state is set, and of what goes on only the use of an end that
--- waits, and the supervisor's own end, take rows away.
-use Rattle.std.specs.Prelude.{◌≡◌, ◌⊎◌, ℕ, List, [], Option, None, Some, true, refl, position, is_some, unwrap_or}
+-- No row comes or goes where nothing waits, at an Up, or at the end of a child that was told to stop and whose row stays: a row's
+-- state is set, and of what goes on only the use of an end that waits, and the supervisor's own end, take rows away.
+use Rattle.std.specs.Prelude.{◌≡◌, ◌⊎◌, ℕ, not, List, [], Option, None, Some, true, false, refl, position, is_some, option_and_then, remove, slice_get, unwrap_or}
+use Rattle.std.specs.Option.{option_map_or}
 use Rattle.std.proofs.Common.{◌∙◌, ap, sym, subst, inl, inr}
-use Rattle.std.proofs.lemmas.Bool.{false≢true}
+use Rattle.std.proofs.lemmas.Bool.{and_parts, false≢true}
 use Rattle.std.proofs.lemmas.Option.{get_or_from_slice_get}
 use Rattle.std.proofs.Math.Seq.{map-set_same}
 use Rattle.otp_reason.specs.declared.note.Note.TheVariants as note
+use Rattle.otp_reason.specs.declared.reason.Reason.{Reason}
 use Rattle.otp_table.specs.declared.row.Row.{Row}
 use Rattle.otp_table.specs.declared.row.RowState.{RowState}
-use Rattle.otp_table.specs.declared.row.RowState.TheVariants.{Starting, Up}
-use Rattle.otp_table.specs.Rows.{with_state}
+use Rattle.otp_table.specs.declared.row.RowState.TheVariants.{Asked, Killed, Restarting, Starting, Undefined, Up}
+use Rattle.otp_table.specs.Rows.{has_process, row_has, with_state}
+use Rattle.otp_rules.specs.declared.event.Event.{Event}
 use Rattle.otp_rules.specs.declared.event.Item.TheVariants as item
 use Rattle.otp_rules.specs.declared.event.Kind.{Kind}
 use Rattle.otp_rules.specs.declared.event.Kind.TheVariants as kind
 use Rattle.otp_rules.specs.declared.event.Waiting.{Waiting}
 use Rattle.otp_rules.specs.declared.work.Sequel.{Sequel}
 use Rattle.otp_rules.specs.declared.work.Sequel.TheVariants as sequel
-use Rattle.otp_rules.specs.State.{Outcome, answer, is_over, with_work}
-use Rattle.otp_rules.specs.Places.{set_row}
+use Rattle.otp_rules.specs.State.{Outcome, State, answer, is_over, with_rows, with_work}
+use Rattle.otp_rules.specs.Deaths.{exit_in, take_exit}
+use Rattle.otp_rules.specs.Places.{at_number, end_row, is_removed, set_row}
 use Rattle.otp_rules.specs.Stops.{is_exit, tell, tell_row, told}
 use Rattle.otp_rules.specs.Starts.{is_due, start, start_row, take_up, up_after}
 use Rattle.otp_rules.specs.Ends.{end_all, refuse_all}
 use Rattle.otp_rules.specs.Step.{decide, stamped, step, step_on, take_item, take_note}
 use Rattle.otp_rules.proofs.GoesOn.{GoesOn, advance-on}
 use Rattle.otp_rules.proofs.Walks.{with_stops}
-use Rattle.otp_rules.proofs.Decisions.{StandsAt, at_number-survives, at_row-survives, at_starting-survives, by_test}
-use Rattle.otp_laws.specs.Stays.{UpKeepsChildren, slots_in}
+use Rattle.otp_rules.proofs.Decisions.{StandsAt, at_number-survives, at_row-finds, at_row-survives, at_starting-survives, by_test}
+use Rattle.otp_laws.specs.Stays.{StopKeepsChildren, UpKeepsChildren, keeps_row, slots_in, stays_stopped, was_told}
 
 -- the rows have these slots
 abbrev pub HaveSlots : List ℕ → Outcome → Type 0
@@ -85,11 +89,58 @@ decided-rests : (slots : List ℕ) (p : ℕ) (o : Outcome) → Rest slots o → 
 unfolding decide take_item take_note
 decided-rests slots p o h = by_test (Rest slots) (is_over o.state.phase) o (take_up p o) (λ _. h) (λ _. up-rests slots p o h)
 
-pub up_keeps_children_law : UpKeepsChildren
+-- a row that stays becomes undefined
+ended-rests : (slots : List ℕ) (place : ℕ) (row : Row) (o : Outcome) → StandsAt place row o → not (is_removed row) ≡ true → Rest slots o → Rest slots (end_row place row o)
+unfolding end_row
+ended-rests slots place row o at stays h =
+    by_test (Rest slots) (is_removed row) (with_rows (remove o.state.rows place) o) (set_row place row Undefined o)
+    (λ goes. absurd (false≢true (sym (ap not goes) ∙ stays)))
+    (λ _. (set-slots slots place row Undefined o at h.0, h.1))
+
+exit_in-rests : (slots : List ℕ) (p : ℕ) (r : Reason) (place : ℕ) (row : Row) (state : RowState) (o : Outcome) → StandsAt place row o → was_told state ≡ true → not (is_removed row) ≡ true → Rest slots o → Rest slots (exit_in p r place row state o)
+unfolding exit_in
+exit_in-rests slots p r place row Undefined o at told stays h = absurd (false≢true told)
+exit_in-rests slots p r place row (Starting q k) o at told stays h = absurd (false≢true told)
+exit_in-rests slots p r place row (Up q) o at told stays h = absurd (false≢true told)
+exit_in-rests slots p r place row (Asked q t) o at told stays h = ended-rests slots place row o at stays h
+exit_in-rests slots p r place row (Killed q) o at told stays h = ended-rests slots place row o at stays h
+exit_in-rests slots p r place row (Restarting k) o at told stays h = absurd (false≢true told)
+
+-- the row that is found is the one of which the law speaks
+found_stays : (p : ℕ) (rows : List Row) (place : ℕ) (row : Row) → position (row_has (has_process p)) rows ≡ Some place → slice_get rows place ≡ Some row → keeps_row p rows ≡ true → stays_stopped row ≡ true
+found_stays p rows place row found at keeps =
+    sym (ap (λ (x : Option Row). option_map_or stays_stopped x false) at)
+    ∙ sym (ap (λ (k : Option ℕ). option_map_or stays_stopped (option_and_then (slice_get rows) k) false) found)
+    ∙ keeps
+
+exit-rests : (slots : List ℕ) (p : ℕ) (r : Reason) (o : Outcome) → keeps_row p o.state.rows ≡ true → Rest slots o → Rest slots (take_exit p r o)
+unfolding take_exit at_number
+exit-rests slots p r o keeps h =
+    at_row-finds (Rest slots) (row_has (has_process p)) o (λ place row. exit_in p r place row row.state) o h h
+    (λ place row at found.
+    let parts = and_parts (was_told row.state) (not (is_removed row)) (found_stays p o.state.rows place row found at keeps) in
+    exit_in-rests slots p r place row row.state o at parts.0 parts.1 h)
+
+stopped-rests : (slots : List ℕ) (p : ℕ) (r : Reason) (o : Outcome) → keeps_row p o.state.rows ≡ true → Rest slots o → Rest slots (decide (kind.Took (item.Note (note.Exit p r))) o)
+unfolding decide take_item take_note
+stopped-rests slots p r o keeps h = by_test (Rest slots) (is_over o.state.phase) o (take_exit p r o) (λ _. h) (λ _. exit-rests slots p r o keeps h)
+
+-- where what the event itself changes keeps the rows, and leaves nothing waiting, what goes on keeps them
+event-stays : (s : State) (e : Event) (k : Kind) → e.kind ≡ k → Rest (slots_in s.rows) (decide k (record { state = stamped e.reading s; orders = [] })) → Stay (slots_in s.rows) (step s e)
 unfolding step step_on
-up_keeps_children_law s e p is none =
+event-stays s e k is decides =
     let begun : Outcome = record { state = stamped e.reading s; orders = [] } in
     let slots : List ℕ = slots_in s.rows in
     let n : ℕ = unwrap_or e.number 0 in
-    let decided : Rest slots (decide e.kind begun) = subst (λ (k : Kind). Rest slots (decide k begun)) (sym is) (decided-rests slots p begun (refl, none)) in
+    let decided : Rest slots (decide e.kind begun) = subst (λ (j : Kind). Rest slots (decide j begun)) (sym is) decides in
     advance-on n (λ _. Rest slots) (Stay slots) (going-stay n slots) (decide e.kind begun) (λ _. inl decided.0) (λ _ _. decided)
+
+pub up_keeps_children_law : UpKeepsChildren
+up_keeps_children_law s e p is none =
+    let begun : Outcome = record { state = stamped e.reading s; orders = [] } in
+    event-stays s e (kind.Took (item.Note (note.Up p))) is (decided-rests (slots_in s.rows) p begun (refl, none))
+
+pub stop_keeps_children_law : StopKeepsChildren
+stop_keeps_children_law s e p r is none keeps =
+    let begun : Outcome = record { state = stamped e.reading s; orders = [] } in
+    event-stays s e (kind.Took (item.Note (note.Exit p r))) is (stopped-rests (slots_in s.rows) p r begun keeps (refl, none))

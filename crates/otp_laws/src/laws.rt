@@ -9,7 +9,7 @@ ghost use Rattle.otp_laws.specs.Once.{CallsAnsweredOnce, CallsAnsweredOnceFrom};
 ghost use Rattle.otp_laws.specs.Refusals.{RefusalsChangeNone};
 ghost use Rattle.otp_laws.specs.Simple.{SimpleHasNoneUndefined};
 ghost use Rattle.otp_laws.specs.Starts.{EndOrdersEnd, StartsOfChildren, StartsOfChildrenFrom};
-ghost use Rattle.otp_laws.specs.Stays.{UpKeepsChildren};
+ghost use Rattle.otp_laws.specs.Stays.{StopKeepsChildren, UpKeepsChildren};
 ghost use Rattle.otp_laws.specs.Ticks.{TicksKillEachLate, TicksKillEachLateFrom};
 
 /// Of the notes that name one process, at most one answer to its start and at most one Exit change the children's rows.
@@ -128,4 +128,10 @@ pub fn ticks_kill_each_late()
 /// have the same slots, in the same order.
 pub fn up_keeps_children()
     ensures { UpKeepsChildren }
+{}
+
+/// The note that a process has ended takes no child away and adds none, where its child was told to stop, is neither temporary nor
+/// dynamic, and nothing waits, and where the supervisor isn't over then: the rows have the same slots, in the same order.
+pub fn stop_keeps_children()
+    ensures { StopKeepsChildren }
 {}

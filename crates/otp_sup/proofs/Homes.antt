@@ -181,7 +181,7 @@ heeded_away s later k p slot kept h is one =
     ∙ ap (λ (l : List Kept). count_away slot l) (heeded_received s later.rows h.x p h.slot kept h.ends h.home ∙ ap (λ (n : ℕ). come_home n kept) is)
     ∙ away_no_more slot kept one)
 
-heeds_in : (s : State) (x : Note) (slot : ℕ) → home_of s x ≡ Some slot → slot_heeding x s.rows ≡ Some slot
+pub heeds_in : (s : State) (x : Note) (slot : ℕ) → home_of s x ≡ Some slot → slot_heeding x s.rows ≡ Some slot
 heeds_in s x slot is = by (is_over s.phase) refl
   where
     by : (b : Bool) → is_over s.phase ≡ b → slot_heeding x s.rows ≡ Some slot

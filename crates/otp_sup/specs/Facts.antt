@@ -84,7 +84,8 @@ pub record KeepsBodies (s : State) (starts : List ℕ) (kept : List Kept) : Type
   pub given : are_given (count_opened s.flags s.specs) kept ≡ true
   -- and of no specification two bodies are kept
   pub one_given : (k : ℕ) → count_given k kept ≤ 1
-  -- a specification's body is no other child's than that in the slot of its place, at home or away
+  -- a specification's body is no other child's than that in the slot of its place, at home or away; and no body waits with a call but
+  -- one that a call brought
   pub own : All (λ (b : Kept). is_own b ≡ true) kept
 
 -- a child has one body. It is at home where the child has no process, where a note of its process's end was taken and waits,

@@ -15,9 +15,11 @@ use Rattle.otp_rules.specs.declared.event.Waiting.TheVariants as waiting
 use Rattle.otp_rules.specs.Alive.{is_told_by}
 use Rattle.otp_rules.specs.Homes.{is_start_call}
 use Rattle.otp_rules.specs.State.{State, is_over}
+use Rattle.otp_laws.specs.Stays.{keeps_row}
 use Rattle.otp_bodies.specs.declared.bodies.Kept.{Kept}
 use Rattle.otp_bodies.specs.declared.bodies.Origin.TheVariants as origin
 use Rattle.otp_bodies.specs.Letters.{carries_body, is_end_note}
+use Rattle.otp_bodies.specs.Loose.{is_with_call}
 use Rattle.otp_sup.specs.declared.plans.Plan.{Plan}
 use Rattle.otp_bodies.specs.Bodies.{came_for, opened, place_of_call, settled, taken_up}
 use Rattle.otp_office.specs.Events.{is_any_waiting}
@@ -89,18 +91,22 @@ may_seat s kind.Stopped = false
 abbrev pub free_for : State → Kind → Option ℕ
 free_for s k = if may_seat s k then Some (free_slot s.rows) else None
 
-abbrev pub is_up_note : Note → Bool
-is_up_note (note.Up _) = true
-is_up_note _ = false
+-- no child goes with the note, where nothing waits: a process is up, or one has ended whose child was told to stop, and the row stays.
+-- Only while work is open is a child told to stop
+abbrev pub is_kept_at : State → Note → Bool
+is_kept_at s (note.Up _) = true
+is_kept_at s (note.Ignored _) = false
+is_kept_at s (note.Failed _ _) = false
+is_kept_at s (note.Exit p _) = is_some s.follows && keeps_row p s.rows
 
--- the event takes a note that a process is up
-abbrev pub is_up : Kind → Bool
-is_up (kind.Took (item.Note x)) = is_up_note x
-is_up _ = false
-
--- no child goes at the event, unless the supervisor ends: a process is up, and nothing waits
+-- no child goes at the event, unless the supervisor ends: it takes such a note, and nothing waits
 abbrev pub keeps_children : State → Kind → Bool
-keeps_children s k = is_up k && not (is_any_waiting s)
+keeps_children s (kind.Took (item.Note x)) = is_kept_at s x && not (is_any_waiting s)
+keeps_children s _ = false
+
+-- where nothing waits, no body waits with its call
+abbrev pub NoneWaits : State → List Kept → Type 0
+NoneWaits s kept = is_any_waiting s ≡ false → list_any is_with_call kept ≡ false
 
 -- what an event of this kind is about to do with bodies, as far as it can be known before it
 pub record IsPlan (s : State) (k : Kind) (plan : Plan) : Type 0 where

@@ -1,10 +1,10 @@
 //! What an event is about to do with bodies, as far as it can be known before it.
 ghost use Rattle.std.specs.Prelude.{◌≡◌};
 ghost use Rattle.otp_core.specs.View.{state_of};
-ghost use Rattle.otp_sup.specs.Moves.{IsPlan, free_for, given_among, home_of, is_start_item, is_start_waiting, is_taken_up, is_waited_for, keeps_children, may_seat};
+ghost use Rattle.otp_sup.specs.Moves.{IsPlan, free_for, given_among, home_of, is_kept_at, is_start_item, is_start_waiting, is_taken_up, is_waited_for, keeps_children, may_seat};
 
 use crate::client::is_start_call;
-use crate::rows::{has_slot, slot_heeding};
+use crate::rows::{has_slot, keeps_row, slot_heeding};
 use otp_core::Core;
 use otp_office::Office;
 use otp_reason::Note;
@@ -73,12 +73,24 @@ fn free_for(core: &Core, kind: &Kind) -> Option<usize>
     }
 }
 
-/// Whether no child goes at an event, unless the supervisor ends: a process is up, and nothing waits.
+/// Whether no child goes with a note, where nothing waits: a process is up, or one has ended whose child was told to stop, and the
+/// row stays. Only while work is open is a child told to stop; else no row is searched for.
+fn is_kept_at(core: &Core, note: &Note) -> bool
+    ensures { result ≡ is_kept_at (state_of core.now) note.now }
+{
+    match note {
+        Note::Up(_) => true,
+        Note::Exit(number, _) => core.has_open_work() && keeps_row(core, *number),
+        Note::Ignored(_) | Note::Failed(..) => false,
+    }
+}
+
+/// Whether no child goes at an event, unless the supervisor ends: it takes such a note, and nothing waits.
 fn keeps_children(core: &Core, kind: &Kind) -> bool
     ensures { result ≡ keeps_children (state_of core.now) kind.now }
 {
     match kind {
-        Kind::Took(Item::Note(Note::Up(_))) => !core.has_waiting(),
+        Kind::Took(Item::Note(note)) => is_kept_at(core, note) && !core.has_waiting(),
         _ => false,
     }
 }

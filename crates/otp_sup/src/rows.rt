@@ -1,12 +1,15 @@
-//! Which child a note tells of, and whether a slot is a child's.
+//! Which child a note tells of, whether its row stays, and whether a slot is a child's.
 ghost use Rattle.std.specs.Prelude.{◌≡◌, if◌then◌else◌, None, Some};
 ghost use Rattle.std.specs.List.{list_any};
 ghost use Rattle.otp_table.specs.Rows.{has_slot};
 ghost use Rattle.otp_rules.specs.Fit.{is_starting};
+ghost use Rattle.otp_laws.specs.Stays.{keeps_row, stays_stopped};
 ghost use Rattle.otp_core.specs.View.{state_of};
 ghost use Rattle.otp_sup.specs.Moves.{is_heeded, slot_heeding};
 
 use otp_bodies::number_of;
+use otp_core::Core;
+use otp_decisions::places::is_removed;
 use otp_office::Office;
 use otp_reason::Note;
 use otp_signals::WordsNaming;
@@ -59,5 +62,25 @@ pub(crate) fn slot_heeding<N: WordsNaming>(office: &Office<N>, note: &Note) -> O
     match core.find_process(number_of(*note)) {
         Some(place) => slot_if_heeded(note, &core.rows()[place]),
         None => None,
+    }
+}
+
+/// Whether the row's child was told to stop, and the row stays when its process has ended.
+fn stays_stopped(row: &Row) -> bool
+    ensures { result ≡ stays_stopped row.now }
+{
+    match row.state {
+        RowState::Asked(..) | RowState::Killed(_) => !is_removed(row),
+        _ => false,
+    }
+}
+
+/// The same of the row whose process has this number, which the core finds. False where none has it.
+pub(crate) fn keeps_row(core: &Core, number: u64) -> bool
+    ensures { result ≡ keeps_row number (state_of core.now).rows }
+{
+    match core.find_process(number) {
+        Some(place) => stays_stopped(&core.rows()[place]),
+        None => false,
     }
 }

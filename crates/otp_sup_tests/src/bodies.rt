@@ -8,7 +8,7 @@ use std::process::Abort;
 
 // Of two bodies that are at home together each goes to its own child: at the opening, and when both children are
 // restarted, the first as it was alone and the second as it was asked to end.
-const OWN_BODIES: [Step; 9] = [
+const OWN_BODIES: [Step; 10] = [
     Step::Opens(1),
     Step::Puts(1, 0, 6),
     Step::Takes(Sent::Up(1), 1),
@@ -18,6 +18,23 @@ const OWN_BODIES: [Step; 9] = [
     Step::Takes(Sent::Exit(2, Reason::Shutdown, 9), 1),
     Step::Puts(3, 0, 8),
     Step::Takes(Sent::Up(3), 1),
+    Step::Puts(4, 1, 9),
+];
+
+// A temporary child is asked to end as its sibling is restarted: it is a child no more, and a new child, which gets its slot, has the
+// body of its own call.
+const GONE_SIBLING: [Step; 11] = [
+    Step::Opens(1),
+    Step::Puts(1, 0, 6),
+    Step::Takes(Sent::Up(1), 1),
+    Step::Puts(2, 1, 7),
+    Step::Takes(Sent::Up(2), 1),
+    Step::Takes(Sent::Crash(1, 8), 1),
+    Step::Takes(Sent::Exit(2, Reason::Shutdown, 9), 1),
+    Step::Puts(3, 0, 8),
+    Step::Takes(Sent::Up(3), 0),
+    Step::Takes(Sent::Second(40, 12), 1),
+    Step::Puts(4, 1, 12),
 ];
 
 // The child of a start_child doesn't start: it is a child no more, and the body that came with that note is the call's.
@@ -55,8 +72,14 @@ const GONE_CHILD: [Step; 14] = [
 
 #[test]
 fn each_child_has_its_own_body(rt: HostRuntime) {
-    let supervisor = one_for_all(&rt, rt.alloc());
+    let supervisor = one_for_all(&rt, rt.alloc(), Restart::Permanent);
     plays(&rt, rt.alloc(), supervisor, &[6, 7], &OWN_BODIES, 6);
+}
+
+#[test]
+fn gone_sibling_lets_go_of_its_body(rt: HostRuntime) {
+    let supervisor = one_for_all(&rt, rt.alloc(), Restart::Temporary);
+    plays(&rt, rt.alloc(), supervisor, &[6, 7], &GONE_SIBLING, 7);
 }
 
 #[test]
@@ -71,13 +94,15 @@ fn gone_child_gives_its_body_back(rt: HostRuntime) {
     plays(&rt, rt.alloc(), supervisor, &[], &GONE_CHILD, 7);
 }
 
-// A supervisor of two children, which are restarted together.
-fn one_for_all(rt: &impl Abort, alloc: Global) -> SupSpec {
+// A supervisor of two children, which are stopped together where one is restarted; the second is of this restart type.
+fn one_for_all(rt: &impl Abort, alloc: Global, restart: Restart) -> SupSpec {
     let flags = SupFlags {
         strategy: Strategy::OneForAll,
         ..SupFlags::default()
     };
-    supervisor_of(rt, alloc, flags, &[child(rt), second(rt)])
+    let mut other = second(rt);
+    other.restart = restart;
+    supervisor_of(rt, alloc, flags, &[child(rt), other])
 }
 
 // A supervisor of dynamic children, which aren't restarted.

@@ -1,4 +1,5 @@
-use Rattle.std.proofs.Common.{List, ap, sym, subst, ◌∙◌}
+use Rattle.std.proofs.Common.{◌≡◌, List, ap, false, sym, subst, ◌∙◌}
+use Rattle.std.specs.List.{list_any}
 use Rattle.otp_core.specs.View.{state_of}
 use Rattle.otp_bodies.specs.Bodies.{bodies_in, calls_waiting}
 use Rattle.otp_sup.specs.Moves.{let_go}
@@ -7,7 +8,8 @@ use Rattle.otp_sup.specs.Facts.{HasBodies}
 use Rattle.otp_sup.proofs.Calls.{calls_happened}
 use Rattle.otp_sup.proofs.Homes.{Laws, bodies_happened}
 use Rattle.otp_sup.proofs.CountAfter.{count_after}
-use Rattle.otp_sup.proofs.Staying.{still_there}
+use Rattle.otp_sup.proofs.Staying.{still_there, still_without}
+use Rattle.otp_bodies.specs.Loose.{is_with_call}
 use Rattle.otp_bodies.specs.Bodies.{AreThere}
 use Rattle.otp_sup.proofs.moves.happen.Goals as goal
 
@@ -59,5 +61,8 @@ let_go-requires g c =
     record {
       there = λ keeps runs.
           subst (λ (l : List Kept). AreThere later.rows l) (sym (c.move_bodies.ensures s later.rows c.plan_of-plan.ensures c.slot_given-slot.ensures))
-          (still_there c.runs_are_joined.ensures.one_more c.up_keeps_children.ensures c.args.office.now c.happen.new.self c.args.reading c.args.kind c.args.bodies.now.kept c.happen.ensures (sym c.plan_of-plan.ensures.stays ∙ keeps) runs c.requires.there);
+          (still_there c.runs_are_joined.ensures.one_more c.up_keeps_children.ensures c.stop_keeps_children.ensures c.args.office.now c.happen.new.self c.args.reading c.args.kind c.args.bodies.now.kept c.happen.ensures (sym c.plan_of-plan.ensures.stays ∙ keeps) runs c.requires.there);
+      calls = λ keeps.
+          subst (λ (l : List Kept). list_any is_with_call l ≡ false) (sym (c.move_bodies.ensures s later.rows c.plan_of-plan.ensures c.slot_given-slot.ensures))
+          (still_without s later.rows c.args.kind c.args.bodies.now.kept (sym c.plan_of-plan.ensures.stays ∙ keeps) c.requires.waits);
     }
