@@ -5,8 +5,10 @@ ghost use Rattle.otp_reason.specs.Names.{name_bytes};
 ghost use Rattle.otp_reason.specs.Texts.{text_bytes};
 ghost use Rattle.otp_rules.specs.declared.work.Phase.TheVariants.{Open};
 ghost use Rattle.otp_run.specs.Lists.{AllAt};
+ghost use Rattle.otp_report.specs.Marks.{AreAllMarked};
 ghost use Rattle.otp_report.specs.Tellings.{Agrees, AllAgree, AreSo, EndedSo, IsBorneOut, IsCutOff, IsEndTold, IsEndUnder, IsGiven, IsMismatch, IsMismatchOf, IsSameCause, IsSameReason, IsSo, IsThere, IsToldSo, KnowsNone, told_end};
 
+use crate::marks::{MARKS, is_marked, marks_of};
 use crate::report::TableReport;
 use otp_core::{Core, History};
 use otp_reason::{Name, Note, Reason, Text};
@@ -27,8 +29,9 @@ pub(crate) fn find_mismatch(tables: &[TableReport]) -> Option<Mismatch>
     ensures none { IfNone result (AreSo tables.now) }
     ensures found { IfSome result (IsMismatch tables.now) }
 {
+    let marks = marks_of(tables);
     for table in 0..tables.len() {
-        if let Some(event) = find_in(&tables[table], tables) {
+        if let Some(event) = find_in(&tables[table], tables, &marks) {
             return Some(Mismatch { table, event });
         }
     }
@@ -36,36 +39,57 @@ pub(crate) fn find_mismatch(tables: &[TableReport]) -> Option<Mismatch>
 }
 
 /// An event of a supervisor that tells an end that isn't so: for another reason, or else with another cause.
-fn find_in(table: &TableReport, tables: &[TableReport]) -> Option<usize>
+fn find_in(table: &TableReport, tables: &[TableReport], marks: &[bool; MARKS]) -> Option<usize>
+    requires { AreAllMarked marks.now tables.now }
     ensures none { IfNone result (IsToldSo tables.now table.now) }
     ensures found { IfSome result (λ event. IsMismatchOf tables.now table.now event) }
 {
-    match find_untrue(table.core.history(), tables) {
+    match find_untrue(table.core.history(), tables, marks) {
         Some(event) => Some(event),
         None => find_false_end(table.ends_told.as_slice(), tables),
     }
 }
 
 /// An event of a history that tells an end that isn't so.
-fn find_untrue(history: &History, tables: &[TableReport]) -> Option<usize>
+fn find_untrue(history: &History, tables: &[TableReport], marks: &[bool; MARKS]) -> Option<usize>
+    requires { AreAllMarked marks.now tables.now }
     ensures none { IfNone result (AllAt (λ _ e. IsSo tables.now e) history.now.events) }
     ensures found { IfSome result (λ place. MatchOption (slice_get history.now.events place) ⊥ (λ event. ¬ (IsSo tables.now event))) }
 {
     for place in 0..history.len() {
-        if !is_so(&history.get(place), tables) {
+        if !is_so(&history.get(place), tables, marks) {
             return Some(place);
         }
     }
     None
 }
 
-/// Whether an event tells no end of a supervisor, or one that is so.
-fn is_so(event: &Event, tables: &[TableReport]) -> bool
+/// Whether an event tells no end of a supervisor, or one that is so. Of these marks none is set for most processes, which are no
+/// supervisors: no history is looked at then.
+fn is_so(event: &Event, tables: &[TableReport], marks: &[bool; MARKS]) -> bool
+    requires { AreAllMarked marks.now tables.now }
     ensures { IsTrue result ↔ IsSo tables.now event.now }
 {
     match told_end(&event.kind) {
-        Some((number, reason)) => all_agree(tables, number, reason),
+        Some((number, reason)) => all_agree_marked(tables, marks, number, reason),
         None => true,
+    }
+}
+
+/// Whether the histories of all supervisors agree with the end of this process. They do where none was opened under its number.
+fn all_agree_marked(
+    tables: &[TableReport],
+    marks: &[bool; MARKS],
+    number: u64,
+    reason: Option<Reason>,
+) -> bool
+    requires { AreAllMarked marks.now tables.now }
+    ensures { IsTrue result ↔ AllAgree tables.now number reason }
+{
+    if is_marked(marks, number) {
+        all_agree(tables, number, reason)
+    } else {
+        true
     }
 }
 

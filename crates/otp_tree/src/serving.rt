@@ -136,9 +136,8 @@ impl<N: SupNaming, J: Job, S: Subsystem> System<N, J, S> {
             return;
         }
         listener.served(table);
-        if hand.runner.around.take_posted() {
-            hand.runner.waiting.notice();
-        }
+        let posted = hand.runner.around.take_posted();
+        hand.runner.waiting.notice_posted(posted);
     }
 
     /// Sends the letter that a hand still has to send. False where it was refused again.

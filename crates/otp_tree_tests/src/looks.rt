@@ -5,7 +5,7 @@ use crate::fixtures::{MEMORY, got, same};
 use otp_job::{Body, Process};
 use otp_signals::{OpenWords, Signal, Viewer, Words, WordsNaming};
 use otp_waiting::looks::Looks;
-use otp_waiting::{Around, Rested, Resting, Waiting};
+use otp_waiting::{Around, Posted, Rested, Resting, Waiting};
 use otp_wake::{Bells, Post};
 use std::alloc::Global;
 use std::marker::Brand;
@@ -115,6 +115,29 @@ impl<N: WordsNaming> Watch<N> {
         }
     }
 
+    // Each is woken in turn, and looked for by its slot: it is found with one look. Where one that wasn't woken is looked for first,
+    // it is found as by a notice. One that waits no more is found by nobody.
+    fn finds_sought(&mut self, rt: &impl Abort) {
+        for place in 0..COUNT {
+            self.post.wake(place);
+            let mut looks = Looks::new(0);
+            looks.notice_at(place, COUNT);
+            self.finds(rt, &mut looks, place, 1);
+            same(
+                rt,
+                "what else was told something",
+                self.find(&mut looks),
+                None,
+            );
+            looks.notice_at(if place == 0 { 1 } else { 0 }, COUNT);
+            looks.notice_at(place, COUNT);
+            self.finds(rt, &mut looks, place, 3);
+            self.post.take(place);
+            looks.notice_at(place, COUNT);
+            same(rt, "what was told nothing", self.find(&mut looks), None);
+        }
+    }
+
     // Each is woken in turn, the first of them first: it is taken out, and none of the others.
     fn takes_each(&mut self, rt: &impl Abort, alloc: Global, is_aside: bool) {
         let mut waiting = few_waiting(rt, alloc, is_aside);
@@ -169,6 +192,7 @@ fn looks_in<N: WordsNaming, R: Abort>(rt: &R, alloc: Global, opened: OpenWords)
         waiting: all_waiting(rt, alloc),
     };
     watch.finds_each(rt);
+    watch.finds_sought(rt);
     watch.takes_each(rt, alloc, false);
     watch.takes_each(rt, alloc, true);
     watch.finds_told(rt, alloc);
@@ -221,14 +245,17 @@ fn a_search_in_vain_is_made_again_in_time(rt: HostRuntime) {
     drop(around);
 }
 
-// That a signal was posted is told once, to whoever asks first.
+// A signal that was posted is told once, with its slot; of two it is told that there were more.
 #[test]
 fn a_posted_signal_is_told_once(rt: HostRuntime) {
     let mut around = Around::new();
-    assert!(rt; !around.take_posted());
+    same(&rt, "at first", around.take_posted(), Posted::Nothing);
+    around.wake(0);
+    same(&rt, "of one", around.take_posted(), Posted::At(0));
+    same(&rt, "afterwards", around.take_posted(), Posted::Nothing);
     around.wake(3);
     around.wake(4);
-    assert!(rt; around.take_posted());
-    assert!(rt; !around.take_posted());
+    same(&rt, "of two", around.take_posted(), Posted::More);
+    same(&rt, "after two", around.take_posted(), Posted::Nothing);
     drop(around);
 }

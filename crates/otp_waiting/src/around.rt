@@ -21,6 +21,23 @@ pub const ENOUGH: u32 = 4;
 /// After so many turns one comes back into the deque, though that has enough: new processes don't keep the others from their turns.
 pub const PATIENCE: u32 = 8;
 
+/// Nothing was posted.
+const NOTHING: u64 = 0;
+
+/// More than one signal was posted.
+const MORE: u64 = u64::MAX;
+
+/// Which signals the supervisors of a hand posted.
+#[derive(Clone, Copy, Debug, PartialEq, Eq)]
+pub enum Posted {
+    /// None.
+    Nothing,
+    /// One, for the process with this slot.
+    At(usize),
+    /// More than one.
+    More,
+}
+
 /// What a hand knows of what is around it: its own deque and those of others, and how jobs are woken from outside.
 #[derive(Drop)]
 pub struct Around {
@@ -34,7 +51,7 @@ pub struct Around {
     passed_by: u32,
     // Whether jobs that were told something have their turns by way of the deque.
     is_crowd: bool,
-    // 1 from when a supervisor of this hand posted a signal until that was asked for.
+    // What supervisors of this hand posted until that was asked for: the slot of one signal, and one; or `NOTHING`, or `MORE`.
     posted: AtomicU64,
 }
 
@@ -57,7 +74,7 @@ impl Around {
             stock: 0,
             passed_by: 0,
             is_crowd: false,
-            posted: AtomicU64::new(0),
+            posted: AtomicU64::new(NOTHING),
         }
     }
 
@@ -168,19 +185,27 @@ impl Around {
         }
     }
 
-    /// Whether a supervisor of this hand posted a signal since this was asked last: only then may a process that waits here have been
-    /// told something in its turn.
-    pub fn take_posted(&mut self) -> bool
+    /// Which signals supervisors of this hand posted since this was asked last: only by these may a process that waits here have been
+    /// told something in their turns.
+    pub fn take_posted(&mut self) -> Posted
         ensures { self.new ≡ self.old }
     {
         let posted = self.posted.load(Ordering::Relaxed);
-        self.posted.store(0, Ordering::Relaxed);
-        posted != 0
+        self.posted.store(NOTHING, Ordering::Relaxed);
+        match posted {
+            NOTHING => Posted::Nothing,
+            MORE => Posted::More,
+            next => Posted::At((next - 1) as usize),
+        }
     }
 
     /// Wakes the process that has this slot, for which a signal was posted, in whichever hand it waits.
     pub fn wake(&self, slot: usize) {
-        self.posted.store(1, Ordering::Relaxed);
+        let posted = match self.posted.load(Ordering::Relaxed) {
+            NOTHING => (slot as u64).saturating_add(1),
+            _ => MORE,
+        };
+        self.posted.store(posted, Ordering::Relaxed);
         if let Some(post) = &self.post {
             post.wake(slot);
         }

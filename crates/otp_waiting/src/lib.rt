@@ -12,6 +12,6 @@ pub mod parked;
 pub mod resting;
 pub mod waiting;
 
-pub use around::{Around, is_due};
+pub use around::{Around, Posted, is_due};
 pub use resting::{Rested, Resting};
 pub use waiting::Waiting;

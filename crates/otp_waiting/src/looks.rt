@@ -12,6 +12,9 @@ const NEWEST: usize = 8;
 /// How many of the others are looked at in a turn, one after the other, after a supervisor may have told one of them something.
 const OTHERS: usize = 24;
 
+/// Among so many of those that were parked last the one is looked for that was told something: mostly it is the very last.
+const NEAR: usize = 64;
+
 /// The next look is at all of them.
 const ALL: usize = usize::MAX;
 
@@ -22,6 +25,8 @@ pub struct Looks {
     next: usize,
     // In how many turns more the newest, and many of the others, are looked at; or `ALL`.
     alert: usize,
+    // The slot of the one that is looked for in the next turn, if one alone was told something.
+    sought: Option<usize>,
     // How many are looked at in each other turn.
     few: usize,
 }
@@ -32,6 +37,7 @@ impl Looks {
         Looks {
             next: 0,
             alert: 0,
+            sought: None,
             few,
         }
     }
@@ -41,6 +47,16 @@ impl Looks {
         self.alert = len / OTHERS + 1;
     }
 
+    /// Notes that the one with this slot may have been told something, if it is one of so many: it is looked for in the next turn. If
+    /// another is still looked for, it is looked at all of them.
+    pub fn notice_at(&mut self, slot: usize, len: usize) {
+        if self.sought.is_none() {
+            self.sought = Some(slot);
+        } else {
+            self.notice(len);
+        }
+    }
+
     /// Notes that the next look is to be at all of them.
     pub fn look_at_all(&mut self) {
         self.alert = ALL;
@@ -48,6 +64,38 @@ impl Looks {
 
     /// The place of one that was told something, if that is one of those that are looked at now.
     pub fn find_told<N: WordsNaming, J: Drop, S: Drop>(
+        &mut self,
+        words: &Words<N>,
+        viewer: &mut Viewer<N>,
+        around: &Around,
+        parked: &[Process<J, S>],
+    ) -> Option<usize>
+        ensures { IfSome result (λ place. place < length parked.now) }
+    {
+        if let Some(place) = self.find_sought(parked) {
+            if is_told(words, viewer, around, &parked[place]) {
+                return Some(place);
+            }
+        }
+        self.find_next(words, viewer, around, parked)
+    }
+
+    /// The place of the one that is looked for, if one is. If it is not among the last, it is looked at all of them.
+    fn find_sought<J: Drop, S: Drop>(&mut self, parked: &[Process<J, S>]) -> Option<usize>
+        ensures { IfSome result (λ place. place < length parked.now) }
+    {
+        let slot = self.sought.take()?;
+        let len = parked.len();
+        let from = len.saturating_sub(NEAR);
+        let place = find_slot(parked, slot, from);
+        if place.is_none() && from > 0 {
+            self.notice(len);
+        }
+        place
+    }
+
+    /// The place of one that was told something, if that is one of those whose turn it is to be looked at.
+    fn find_next<N: WordsNaming, J: Drop, S: Drop>(
         &mut self,
         words: &Words<N>,
         viewer: &mut Viewer<N>,
@@ -96,6 +144,21 @@ fn find_told<N: WordsNaming, J: Drop, S: Drop>(
     for back in from..to {
         let place = to - 1 - (back - from);
         if is_told(words, viewer, around, &parked[place]) {
+            return Some(place);
+        }
+    }
+    None
+}
+
+/// The last place from this one on of a process with this slot.
+fn find_slot<J: Drop, S: Drop>(parked: &[Process<J, S>], slot: usize, from: usize) -> Option<usize>
+    requires { from ≤ length parked.now }
+    ensures { IfSome result (λ place. place < length parked.now) }
+{
+    let to = parked.len();
+    for back in from..to {
+        let place = to - 1 - (back - from);
+        if parked[place].slot() == slot {
             return Some(place);
         }
     }

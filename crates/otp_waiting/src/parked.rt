@@ -79,6 +79,13 @@ impl<J: Drop, S: Drop> Parked<J, S> {
         self.looks.notice(self.list.len());
     }
 
+    /// Notes that the one with this slot may have been told something, if it is one of them: it is looked for in the next turn.
+    pub fn notice_at(&mut self, slot: usize)
+        ensures { self.new ≡ self.old }
+    {
+        self.looks.notice_at(slot, self.list.len());
+    }
+
     /// Notes that the next look is to be at all of them.
     pub fn look_at_all(&mut self)
         ensures { self.new ≡ self.old }

@@ -2,7 +2,7 @@
 ghost use Rattle.std.specs.Prelude.{◌≡◌, ◌+◌, ◌-◌, ◌^◌, ◌<◌, ◌≤◌, ◌++◌, ◌∷◌, [], length, min, slice_index_or, IfNone, IfSome, MatchOption};
 ghost use Rattle.otp_waiting.specs.Waitings.{IsPutInFront, IsTaken, IsTakenInFront};
 
-use crate::around::Around;
+use crate::around::{Around, Posted};
 use crate::parked::Parked;
 use otp_job::Process;
 use otp_signals::{Viewer, Words, WordsNaming};
@@ -118,6 +118,20 @@ impl<J: Drop, S: Drop> Waiting<J, S> {
     {
         self.idle.notice();
         self.aside.notice();
+    }
+
+    /// Notes which signals were posted by the hand's own supervisors. If it is one, the process is looked for in the next turn.
+    pub fn notice_posted(&mut self, posted: Posted)
+        ensures { self.new ≡ self.old }
+    {
+        match posted {
+            Posted::Nothing => {}
+            Posted::At(slot) => {
+                self.idle.notice_at(slot);
+                self.aside.notice_at(slot);
+            }
+            Posted::More => self.notice(),
+        }
     }
 
     /// Notes that the next look is to be at all that don't stand aside.
