@@ -1,5 +1,6 @@
 //! Whoever calls the supervisors of a running tree from a thread of its own, or adds some to it.
-ghost use Rattle.std.specs.Prelude.{◌<◌, length};
+ghost use Rattle.std.specs.Prelude.{◌≡◌, ◌<◌, length};
+ghost use Rattle.otp_caller.specs.Stages.{IsEnded, IsUndone};
 
 use crate::locked::{Locked, ReachNaming};
 use otp_core::ReplyAnswer;
@@ -46,7 +47,8 @@ impl<J: Drop, S: Drop> Plans<J, S> {
     }
 
     fn into_all(self) -> Vec<TablePlan<J, S>>
-        ensures { 0 < length result.items }
+        ensures some { 0 < length result.items }
+        ensures all { length result.items ≡ self }
     {
         let Plans { all } = self;
         all
@@ -369,19 +371,28 @@ impl<J: Drop, S: Drop> Caller<J, S> {
     /// For whoever serves the tree: notes that the run has ended, and wakes the caller. Each later call is answered [`Answer::Over`].
     pub fn close<R: Wait>(&self, rt: &R) {
         let mut stage = self.stage.lock(rt);
-        let next = match mem::replace(&mut *stage, Stage::Closed) {
-            Stage::Wanted(wanted) => Stage::Last(undone(wanted)),
-            Stage::Came(came) | Stage::Last(came) => Stage::Last(came),
-            Stage::Sent(..) | Stage::Idle | Stage::Closed => Stage::Closed,
-        };
+        let next = ended(mem::replace(&mut *stage, Stage::Closed));
         *stage = next;
         drop(stage);
         self.own.ring(0);
     }
 }
 
+/// How far it is once the run has ended. What is still wanted then comes back.
+fn ended<J: Drop, S: Drop>(stage: Stage<J, S>) -> Stage<J, S>
+    ensures { IsEnded stage result }
+{
+    match stage {
+        Stage::Wanted(wanted) => Stage::Last(undone(wanted)),
+        Stage::Came(came) | Stage::Last(came) => Stage::Last(came),
+        Stage::Sent(..) | Stage::Idle | Stage::Closed => Stage::Closed,
+    }
+}
+
 /// What comes of it where the run has ended.
-fn undone<J: Drop, S: Drop>(wanted: Wanted<J, S>) -> Came<J, S> {
+fn undone<J: Drop, S: Drop>(wanted: Wanted<J, S>) -> Came<J, S>
+    ensures { IsUndone wanted result }
+{
     match wanted {
         Wanted::Call(call) => {
             let Outgoing { body, .. } = call;

@@ -6,12 +6,12 @@ use crate::guests::{
 use otp_bridge::BoxedSubsystem;
 use otp_job::Body;
 use otp_live::{
-    CallError, Caller, DeleteRefusal, RestartRefusal, Stop, TerminateRefusal, Unwatched,
+    AddError, CallError, Caller, DeleteRefusal, RestartRefusal, Stop, TerminateRefusal, Unwatched,
     run_with_callers,
 };
 use otp_reason::Name;
 use otp_spec::ChildSpec;
-use otp_tree::CallRefusal;
+use otp_tree::{CallRefusal, RunFault};
 use std::alloc::Global;
 use std::process::Abort;
 use std::sync::{Arc, Wait};
@@ -102,4 +102,88 @@ fn call_beside<R: Threads + Wait + Clock + Abort + Sync>(rt: &R, alloc: Global, 
 fn supervisors_are_called_while_they_run(rt: HostRuntime) {
     call_beside(&rt, rt.alloc(), 1);
     call_beside(&rt, rt.alloc(), 4);
+}
+
+// Waits until each of them wants something.
+fn await_all(callers: &[Calling]) {
+    for caller in callers {
+        for _ in 0..u64::MAX {
+            if caller.is_wanted() {
+                break;
+            }
+            thread::yield_now();
+        }
+    }
+}
+
+// Runs a tree that is refused, as a child of its last supervisor has no body: but not before each caller wants something.
+fn run_in_vain<R>(rt: &R, alloc: Global, plans: Vec<Plan>, stop: &Stop, callers: &[Calling])
+where
+    R: Threads + Wait + Clock + Abort + Sync,
+{
+    let mut plans = plans;
+    if let Some(plan) = plans.last_mut() {
+        drop(plan.bodies.pop());
+    }
+    may_run(rt, plans.as_slice(), 1);
+    await_all(callers);
+    match run_with_callers(rt, alloc, plans, 1, stop, &Unwatched, callers) {
+        Err(RunFault::Open(back)) => drop(back),
+        _ => panic!(rt; "a child has no body"),
+    }
+}
+
+// A child is to be started. There is no run, and its body is back.
+fn start_in_vain<R: Wait + Abort>(rt: &R, caller: &Calling, shared: &Arc<Shared>) {
+    let id = named(rt, b"late");
+    let job = make_guest(rt, Kind::Steady, shared);
+    match caller.start_child(rt, 0, ChildSpec::new(id, id), Body::Worker(job)) {
+        Err((CallError::Over, Some(body))) => drop(body),
+        _ => panic!(rt; "the body is back"),
+    }
+}
+
+// Supervisors are to be added. There is no run, and their plans are back.
+fn add_in_vain<R: Wait + Abort>(rt: &R, caller: &Calling, plans: Vec<Plan>) {
+    assert!(rt; !plans.is_empty());
+    match caller.add_tree(rt, plans) {
+        Err(AddError::Over(Some(plans))) => {
+            same(rt, "how many plans came back", plans.len(), 2);
+            drop(plans);
+        }
+        _ => panic!(rt; "the plans are back"),
+    }
+}
+
+// Both at the same time, by a caller each.
+fn want_in_vain<R>(rt: &R, one: &Calling, other: &Calling, plans: Vec<Plan>, shared: &Arc<Shared>)
+where
+    R: Threads + Wait + Abort + Sync,
+{
+    let ((), ()) = thread::join(
+        rt,
+        || start_in_vain(rt, one, shared),
+        || add_in_vain(rt, other, plans),
+    );
+}
+
+// What a caller wanted of a run before that was refused comes back to it.
+#[test]
+fn what_was_wanted_comes_back(rt: HostRuntime) {
+    let (rt, alloc) = (&rt, rt.alloc());
+    let shared = Shared::new(rt, alloc);
+    let callers = [
+        got(rt, MEMORY, Caller::new(&shared.stop)),
+        got(rt, MEMORY, Caller::new(&shared.stop)),
+    ];
+    let kinds = [Kind::Steady, Kind::Busy];
+    let plans = tree(rt, alloc, &kinds, &kinds, &shared, flags(1));
+    let others = tree(rt, alloc, &kinds, &kinds, &shared, flags(1));
+    let ((), ()) = thread::join(
+        rt,
+        || run_in_vain(rt, alloc, plans, &shared.stop, &callers),
+        || want_in_vain(rt, &callers[0], &callers[1], others, &shared),
+    );
+    drop(callers);
+    drop(shared);
 }
