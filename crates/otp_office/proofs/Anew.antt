@@ -32,6 +32,7 @@ planned_anew old flags specs few none i =
     let orders = none_ordered old.core none in
     record {
       begins = record { flags = flags; specs = specs; is = refl; few = few };
+      cut = omega arith;
       numbers = i.numbers ∙ ap numbers_of none;
       orders = sym (drop-nil old.sent);
       counted = subst (λ (l : List Effect). old.sent ≤ length l) orders i.counted;

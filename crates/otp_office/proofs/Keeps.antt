@@ -54,6 +54,7 @@ readied old new r i =
     let From : ℕ → Type 0 = λ n. EachBetween n (n + 256) (Contains old.owner.slots) in
     record {
       begins = subst Begins (sym (readied_base old new r)) i.begins;
+      cut = subst (λ (v : View). v.cut ≤ length v.history) (sym r.core) i.cut;
       numbers = ap (λ (h : Holding). h.drawn) r.owner ∙ i.numbers ∙ ap numbers_of (sym (readied_history old new r));
       orders = r.outbox ∙ i.orders ∙ ap (λ n. drop n (orders_along old.core)) (sym r.sent) ∙ ap (λ (l : List Effect). drop new.sent l) (sym all);
       counted = let c = i.counted in let s = r.sent in let l = ap (λ (x : List Effect). length x) all in omega arith;
@@ -85,13 +86,20 @@ pub drawn_slots : (number : Option ℕ) (h : Holding) → (drawn_by number h).sl
 drawn_slots None h = refl
 drawn_slots (Some n) h = refl
 
+-- what was cut off is of a history with one event more
+cut_on : (core next : View) (e : Event) → next.cut ≡ core.cut → next.history ≡ core.history ++ e ∷ [] → core.cut ≤ length core.history → next.cut ≤ length next.history
+cut_on core next e cut history within =
+    let more : length next.history ≡ length (core.history ++ e ∷ []) = ap (λ (h : List Event). length h) history in
+    let sum = length-append core.history (e ∷ []) in
+    omega arith
+
 -- one event happened, and all orders before it were sent
 pub happened : (old new : OfficeView) (e : Event)
-    → old.outbox ≡ [] → new.core.base ≡ old.core.base → new.core.history ≡ old.core.history ++ e ∷ []
+    → old.outbox ≡ [] → new.core.base ≡ old.core.base → new.core.cut ≡ old.core.cut → new.core.history ≡ old.core.history ++ e ∷ []
     → new.outbox ≡ orders_in (step (state_of old.core) e).orders → new.sent ≡ old.sent
     → (e.number ≡ None → new.owner.drawn ≡ old.owner.drawn) → ((n : ℕ) → e.number ≡ Some n → new.owner.drawn ≡ old.owner.drawn ++ n ∷ [])
     → new.owner.posts ≡ old.owner.posts → new.owner.slots ≡ old.owner.slots → new.first_slot ≡ old.first_slot → IsOffice old → IsOffice new
-happened old new e empty base history outbox sent none some posts slots first i =
+happened old new e empty base cut history outbox sent none some posts slots first i =
     let fresh : List Effect = orders_in (step (state_of old.core) e).orders in
     let all : orders_along new.core ≡ orders_along old.core ++ fresh = along_on old.core new.core e base history in
     let whole : old.sent ≡ length (orders_along old.core) = empty_from old.sent (orders_along old.core) (sym empty ∙ i.orders) i.counted in
@@ -102,6 +110,7 @@ happened old new e empty base history outbox sent none some posts slots first i 
     let From : ℕ → Type 0 = λ n. EachBetween n (n + 256) (Contains old.owner.slots) in
     record {
       begins = subst Begins (sym base) i.begins;
+      cut = cut_on old.core new.core e cut history i.cut;
       numbers = drawn_on old.owner.drawn new.owner.drawn old.core.history new.core.history e.reading e.number e.kind i.numbers history none some;
       orders = outbox ∙ sym (drop-append_seam (orders_along old.core) fresh) ∙ ap (λ n. drop n (orders_along old.core ++ fresh)) (sym (sent ∙ whole)) ∙ ap (λ (l : List Effect). drop new.sent l) (sym all);
       counted = omega arith;

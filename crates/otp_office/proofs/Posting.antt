@@ -149,6 +149,7 @@ opened core flags specs owner sent first is few drawn posts slots fits none =
     let Sent : ℕ → Type 0 = λ n. IsOffice (record { core = new_core flags specs; owner = owner; outbox = []; sent = n; first_slot = first }) in
     subst Of (sym is) (subst Sent (sym none) (record {
       begins = record { flags = flags; specs = specs; is = refl; few = few };
+      cut = omega arith;
       numbers = drawn;
       orders = refl;
       counted = omega arith;

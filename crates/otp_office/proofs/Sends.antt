@@ -88,6 +88,7 @@ advanced o some were i =
     let left = length-drop o.sent all in
     record {
       begins = i.begins;
+      cut = i.cut;
       numbers = i.numbers;
       orders = ap (λ (l : List Effect). drop 1 l) i.orders ∙ drop_one o.sent all ∙ ap (λ n. drop n all) (sym (add-one o.sent));
       counted = omega arith;
@@ -143,6 +144,7 @@ known_number o number told p law lawful i =
 pub posted : (o : OfficeView) (number slot : ℕ) (told : Signal) → Posts o number told → IsOffice o → IsOffice (record o { owner = after_post slot (word_of number told) o.owner })
 posted o number slot told p i = record {
   begins = i.begins;
+  cut = i.cut;
   numbers = i.numbers;
   orders = i.orders;
   counted = i.counted;

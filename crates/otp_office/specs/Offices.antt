@@ -48,6 +48,8 @@ pub record Begins (base : State) : Type 0 where
 
 pub record IsOffice (o : OfficeView) : Type 0 where
   pub begins : Begins o.core.base
+  -- what was cut off is of its history
+  pub cut : o.core.cut ≤ length o.core.history
   -- its numbers are those of its own seat
   pub numbers : o.owner.drawn ≡ numbers_of o.core.history
   -- behind the orders of its history that were sent come those to be sent

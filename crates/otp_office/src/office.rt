@@ -1,5 +1,5 @@
 //! A core with the seat that draws its numbers, and its orders on their way.
-ghost use Rattle.std.specs.Prelude.{◌≡◌, ℕ, ◌+◌, ◌<◌, ◌≤◌, ◌^◌, [], true, false, length, Contains, IsTrue, IfSome, IfErr, OnErr, OnOk, MatchOption, None};
+ghost use Rattle.std.specs.Prelude.{◌≡◌, ℕ, ◌+◌, ◌<◌, ◌≤◌, ◌^◌, ◌↔◌, [], true, false, length, Contains, IsTrue, IfSome, IfErr, OnErr, OnOk, MatchOption, None};
 ghost use Rattle.otp_spec.specs.declared.limits.TheConstants.{MAX_CHILDREN, MAX_READING};
 ghost use Rattle.otp_core.specs.View.{new_core, state_of, stored_of};
 ghost use Rattle.otp_rules.specs.State.{is_over};
@@ -224,7 +224,7 @@ impl<N: WordsNaming> Office<N> {
     /// Whether no event has happened.
     #[tactic(auto, using(crate::proofs::Anew::nothing_happened))]
     pub fn is_unused(&self) -> bool
-        ensures { IsTrue result → self.now.core.history ≡ [] }
+        ensures { IsTrue result ↔ (self.now.core.history ≡ []) }
     {
         self.core.events_cut() == 0 && self.core.history().len() == 0
     }

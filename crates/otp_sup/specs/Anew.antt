@@ -1,5 +1,5 @@
 -- A supervisor that had no event gets another plan. (own)
-use Rattle.std.specs.Prelude.{◌≡◌, ℕ, List, [], Option, false}
+use Rattle.std.specs.Prelude.{◌≡◌, ◌↔◌, ℕ, List, [], Bool, IsTrue, Option, false}
 use Rattle.otp_bodies.specs.Bodies.{settled}
 use Rattle.otp_bodies.specs.declared.bodies.Kept.{Kept}
 use Rattle.otp_core.specs.View.{new_core}
@@ -28,8 +28,8 @@ pub record PlannedUnder (plans : ℕ → Option Supervisor) (inbox : ℕ) (super
   pub planned : IsPlannedAnew supervisor kept old new
   pub kept_rules : KeepsRules plans new
 
--- a table that keeps the rules had no event
-pub record WasUnused (plans : ℕ → Option Supervisor) : Type 0 where
+-- of a table that keeps the rules this tells whether it had no event
+pub record ToldUnused (plans : ℕ → Option Supervisor) (told : Bool) : Type 0 where
   pub table : TableView
   pub rules : KeepsRules plans table
-  pub unused : table.office.core.history ≡ []
+  pub unused : IsTrue told ↔ (table.office.core.history ≡ [])

@@ -1,9 +1,9 @@
 //! A table under its lock, beside its inbox.
-ghost use Rattle.std.specs.Prelude.{◌≡◌, ◌⊎◌, ◌+◌, ◌<◌, ◌≤◌, ◌↔◌, [], is_some, length, min, true, None, IfErr, IfOk, IsTrue, OnErr, OnOk, Ok};
+ghost use Rattle.std.specs.Prelude.{◌≡◌, ◌⊎◌, ◌+◌, ◌<◌, ◌≤◌, ◌↔◌, [], is_some, length, min, true, None, IfErr, IfOk, OnErr, OnOk, Ok};
 ghost use Rattle.otp_spec.specs.declared.limits.TheConstants.{MAX_READING};
 ghost use Rattle.otp_inbox.specs.Tokens.{count_limit};
 ghost use Rattle.otp_bodies.specs.Bodies.{are_ready, bodies_in, count_opened, is_left_of, is_stray};
-ghost use Rattle.otp_sup.specs.Anew.{PlannedUnder, WasUnused};
+ghost use Rattle.otp_sup.specs.Anew.{PlannedUnder, ToldUnused};
 ghost use Rattle.otp_sup.specs.Cuts.{CutWhereFull};
 ghost use Rattle.otp_sup.specs.Facts.{KeepsRules};
 ghost use Rattle.otp_office.specs.Orders.{starts_in};
@@ -161,7 +161,7 @@ impl<N: SupNaming, B: Drop> Sup<N, B> {
 
     /// Whether the supervisor had no event: see [`Table::is_unused`].
     pub fn is_unused<R: Wait>(&self, rt: &R) -> bool
-        ensures { IsTrue result → WasUnused N.plan }
+        ensures { ToldUnused N.plan result }
     {
         let guard = self.table.lock(rt);
         let table = &*guard;

@@ -1,7 +1,7 @@
 //! What lies under a supervisor's lock.
 ghost use Rattle.otp_bodies.specs.Letters.{Comes, carries_body};
 ghost use Rattle.otp_bodies.specs.Messages.{message};
-ghost use Rattle.std.specs.Prelude.{◌≡◌, ◌++◌, ◌∷◌, ◌+◌, ◌≤◌, ◌<◌, [], true, false, is_some, length, min, IfErr, IfNone, IfOk, IfSome, IsTrue, None, OnOk, Some, vec_capacity};
+ghost use Rattle.std.specs.Prelude.{◌≡◌, ◌++◌, ◌∷◌, ◌+◌, ◌≤◌, ◌<◌, ◌↔◌, [], true, false, is_some, length, min, IfErr, IfNone, IfOk, IfSome, IsTrue, None, OnOk, Some, vec_capacity};
 ghost use Rattle.otp_inbox.specs.Tokens.{count_limit, no_shares};
 ghost use Rattle.std.specs.List.{list_any};
 ghost use Rattle.otp_spec.specs.declared.limits.TheConstants.{MAX_READING};
@@ -141,7 +141,7 @@ impl<N: SupNaming, B: Drop> Table<N, B> {
 
     /// Whether it had no event.
     pub fn is_unused(&self) -> bool
-        ensures { IsTrue result → self.now.office.core.history ≡ [] }
+        ensures { IsTrue result ↔ (self.now.office.core.history ≡ []) }
     {
         let _ = &self.taker;
         self.office.is_unused()

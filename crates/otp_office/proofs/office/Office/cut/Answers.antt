@@ -1,4 +1,4 @@
-use Rattle.std.proofs.Common.{◌≡◌, List, [], ap, take, ◌∙◌, drop, length, subst, sym}
+use Rattle.std.proofs.Common.{◌≡◌, List, [], ap, arith, take, ◌∙◌, drop, length, subst, sym}
 use Rattle.otp_core.specs.View.{View}
 use Rattle.otp_office.specs.Offices.{IsOffice, OfficeView}
 use Rattle.otp_rules.specs.declared.event.Effect.{Effect}
@@ -16,6 +16,7 @@ invariant_of-self g c =
     let empty : orders_in (drop c.self.inside.next v.effects) ≡ [] = ap (λ (o : OfficeView). o.outbox) c.self.view_is ∙ c.requires in
     subst Is (sym is) (record {
       begins = c.self.invariant.begins;
+      cut = omega arith;
       numbers = c.self.invariant.numbers;
       orders = sym empty ∙ c.self.invariant.orders;
       counted = c.self.invariant.counted;

@@ -17,11 +17,12 @@ invariant_of-self g c =
     let e : Event = record { reading = c.args.reading; number = c.step_drawing.result; kind = c.args.kind } in
     let cleared = c.clear_effects.ensures in
     let base = c.step_drawing.ensures.base ∙ ap (λ (v : View). v.base) cleared in
+    let cut = c.step_drawing.ensures.cut ∙ ap (λ (v : View). v.cut) cleared in
     let history = c.step_drawing.ensures.history ∙ ap (λ (v : View). v.history ++ e ∷ []) cleared in
     let effects = c.step_drawing.ensures.effects ∙ ap (λ (v : View). v.effects ++ (step (state_of v) e).orders) cleared in
     let owner = c.step_drawing.ensures.owner in
     let before : Holding = c.self.inside.owner in
-    happened _ _ e (ap (λ (o : OfficeView). o.outbox) c.self.view_is ∙ c.requires.outbox) base history (ap orders_in effects) refl
+    happened _ _ e (ap (λ (o : OfficeView). o.outbox) c.self.view_is ∙ c.requires.outbox) base cut history (ap orders_in effects) refl
     (λ none. ap (λ (h : Holding). h.drawn) (owner ∙ ap (λ (n : Option ℕ). drawn_by n before) none))
     (λ n some. ap (λ (h : Holding). h.drawn) (owner ∙ ap (λ (n : Option ℕ). drawn_by n before) some))
     (ap (λ (h : Holding). h.posts) owner ∙ drawn_posts c.step_drawing.result before)
