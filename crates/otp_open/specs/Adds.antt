@@ -1,12 +1,18 @@
 -- Supervisors that are added to a tree. (own)
-use Rattle.std.specs.Prelude.{◌≡◌, ℕ, ◌≤◌, ⊤, List, [], ◌∷◌, All, Bool, MatchOption, true, length, nat_lt, slice_get}
+use Rattle.std.specs.Prelude.{◌≡◌, ℕ, ◌≤◌, ⊤, List, [], ◌∷◌, All, Bool, MatchOption, Option, true, length, nat_lt, slice_get}
 use Rattle.std.specs.List.{AllPass}
 use Rattle.otp_bodies.specs.Bodies.{BodiesView}
 use Rattle.otp_draft.specs.Plans.{IsNear}
 use Rattle.otp_job.specs.declared.body.Body.{Body}
 use Rattle.otp_job.specs.declared.body.Body.TheVariants as body
 use Rattle.otp_run.specs.Lists.{AllAt}
+use Rattle.otp_spec.specs.Supervisor.{Supervisor}
+use Rattle.otp_sup.specs.Anew.{IsOccupied}
 use Rattle.otp_open.specs.declared.plan.TablePlan.{TablePlan}
+
+-- some place is occupied
+abbrev pub IsAnyOccupied : (ℕ → Option Supervisor) → Type 0
+IsAnyOccupied plans = (inbox : ℕ) × IsOccupied plans inbox
 
 module _ {J S : Type 0} where
   -- it is no supervisor, or one with a number below this one

@@ -4,8 +4,9 @@ ghost use Rattle.std.specs.Prelude.{◌≡◌, ◌+◌, ◌<◌, ◌≤◌, ℕ,
 ghost use Rattle.std.specs.List.{AllPass};
 ghost use Rattle.otp_draft.specs.Plans.{IsNear};
 ghost use Rattle.otp_spec.specs.declared.limits.TheConstants.{MAX_TABLES};
-ghost use Rattle.otp_open.specs.Adds.{AreNear, AreWithin, Fit, IsSpaceFor, IsStrangerAt, is_within};
+ghost use Rattle.otp_open.specs.Adds.{AreNear, AreWithin, Fit, IsAnyOccupied, IsSpaceFor, IsStrangerAt, is_within};
 ghost use Rattle.otp_open.specs.Plans.{HasBodies, HaveBodies, IsLackingAt, LacksBody};
+ghost use Rattle.otp_sup.specs.Anew.{IsOccupied};
 
 use crate::plan::TablePlan;
 use otp_draft::number_bodies;
@@ -115,6 +116,7 @@ fn plan_one<N: SupNaming, J: Drop, S: Drop, R: Wait>(
     requires space { IsSpaceFor plan space }
     requires near { All IsNear plan.bodies.items }
     requires few { first < MAX_TABLES }
+    ensures { result ≡ false → IsOccupied N.plan sup.now.inbox }
 {
     let TablePlan {
         supervisor,
@@ -138,7 +140,9 @@ pub fn are_unused<N: SupNaming, J: Drop, S: Drop, R: Wait>(
     shared: &Shared<N, J, S>,
     first: usize,
     count: usize,
-) -> bool {
+) -> bool
+    ensures { result ≡ false → first + count ≤ shared.now.tables → IsAnyOccupied N.plan }
+{
     for offset in 0..count {
         let Some(sup) = sup_at(shared, first.saturating_add(offset)) else {
             return false;
@@ -155,7 +159,8 @@ fn sup_at<N: SupNaming, J: Drop, S: Drop>(
     shared: &Shared<N, J, S>,
     table: usize,
 ) -> Option<&Sup<N, Body<J, S>>>
-    ensures { IfSome result (λ sup. sup.now.inbox ≡ table) }
+    ensures there { IfSome result (λ sup. sup.now.inbox ≡ table) }
+    ensures beyond { IfNone result (shared.now.tables ≤ table) }
 {
     shared.sups.get(table)
 }
@@ -175,6 +180,7 @@ pub fn plan_all<N: SupNaming, J: Drop, S: Drop, R: Wait>(
     requires bodies { HaveBodies plans.items }
     requires near { AreNear plans.items }
     requires fit { Fit plans.items spaces.items }
+    ensures { result ≡ false → first + length plans.items ≤ shared.now.tables → IsAnyOccupied N.plan }
 {
     let mut spaces = spaces.into_iter();
     let mut number = first;

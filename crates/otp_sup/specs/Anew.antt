@@ -1,5 +1,5 @@
 -- A supervisor that had no event gets another plan. (own)
-use Rattle.std.specs.Prelude.{◌≡◌, ◌↔◌, ℕ, List, [], Bool, IsTrue, Option, false}
+use Rattle.std.specs.Prelude.{◌≡◌, ◌⊎◌, ◌↔◌, ℕ, List, [], Bool, IsTrue, Option, false}
 use Rattle.otp_bodies.specs.Bodies.{settled}
 use Rattle.otp_bodies.specs.declared.bodies.Kept.{Kept}
 use Rattle.otp_core.specs.View.{new_core}
@@ -27,6 +27,12 @@ pub record PlannedUnder (plans : ℕ → Option Supervisor) (inbox : ℕ) (super
   pub unused : old.office.core.history ≡ []
   pub planned : IsPlannedAnew supervisor kept old new
   pub kept_rules : KeepsRules plans new
+
+-- a table that keeps the rules is of another inbox than this one, or had an event
+pub record IsOccupied (plans : ℕ → Option Supervisor) (inbox : ℕ) : Type 0 where
+  pub table : TableView
+  pub rules : KeepsRules plans table
+  pub occupied : (¬ (table.taker.inbox ≡ inbox)) ⊎ (¬ (table.office.core.history ≡ []))
 
 -- of a table that keeps the rules this tells whether it had no event
 pub record ToldUnused (plans : ℕ → Option Supervisor) (told : Bool) : Type 0 where

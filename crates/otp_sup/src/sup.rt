@@ -3,7 +3,7 @@ ghost use Rattle.std.specs.Prelude.{◌≡◌, ◌⊎◌, ◌+◌, ◌<◌, ◌�
 ghost use Rattle.otp_spec.specs.declared.limits.TheConstants.{MAX_READING};
 ghost use Rattle.otp_inbox.specs.Tokens.{count_limit};
 ghost use Rattle.otp_bodies.specs.Bodies.{are_ready, bodies_in, count_opened, is_left_of, is_stray};
-ghost use Rattle.otp_sup.specs.Anew.{PlannedUnder, ToldUnused};
+ghost use Rattle.otp_sup.specs.Anew.{IsOccupied, PlannedUnder, ToldUnused};
 ghost use Rattle.otp_sup.specs.Cuts.{CutWhereFull};
 ghost use Rattle.otp_sup.specs.Facts.{KeepsRules};
 ghost use Rattle.otp_office.specs.Orders.{starts_in};
@@ -170,7 +170,8 @@ impl<N: SupNaming, B: Drop> Sup<N, B> {
     }
 
     /// The supervisor of this plan takes the place of the one under the lock, which had no event, with the bodies of its child
-    /// specifications: see [`Table::plan_anew`]. Where that had an event, nothing changes, and plan and bodies come back.
+    /// specifications: see [`Table::plan_anew`]. Where that had an event, nothing changes, and plan and bodies come back. So it is
+    /// where it isn't this place's own, which doesn't happen.
     pub fn plan_anew<R: Wait>(
         &self,
         rt: &R,
@@ -182,6 +183,7 @@ impl<N: SupNaming, B: Drop> Sup<N, B> {
         requires bodies { are_ready (count_opened supervisor.flags supervisor.specs) bodies.kept ≡ true }
         ensures planned { OnOk result (PlannedUnder N.plan self.now.inbox supervisor bodies.kept) }
         ensures back { IfErr result (λ back. (back.0 ≡ supervisor) × (back.1 ≡ bodies)) }
+        ensures occupied { OnErr result (IsOccupied N.plan self.now.inbox) }
     {
         let mut guard = self.table.lock(rt);
         let table = &mut *guard;

@@ -3,7 +3,7 @@ ghost use Rattle.std.specs.Prelude.{◌≡◌, ◌<◌, IfErr, IfOk, OnOk, lengt
 ghost use Rattle.otp_spec.specs.declared.limits.TheConstants.{MAX_TABLES};
 ghost use Rattle.otp_open.specs.Adds.{AreNear, AreWithin, Fit};
 ghost use Rattle.otp_open.specs.Plans.{HaveBodies};
-ghost use Rattle.otp_tree.specs.Adds.{IsAddFault, IsGivenBack};
+ghost use Rattle.otp_tree.specs.Adds.{IsAddFault, IsGivenBack, IsOccupiedOnly};
 
 use crate::growth::Growth;
 use crate::system::System;
@@ -61,6 +61,8 @@ impl<N: SupNaming, J: Drop, S: Drop> System<N, J, S> {
         ensures within { OnOk result (AreWithin plans.items) }
         ensures fault { IfErr result (λ back. IsAddFault plans.items back.fault) }
         ensures back { IfErr result (IsGivenBack plans.items) }
+        // A place is said to be occupied only where a table that keeps the rules had an event, or isn't in its place.
+        ensures occupied { IfErr result (λ back. IsOccupiedOnly N.plan back.fault) }
     {
         if plans.len() > MAX_TABLES {
             return Err(not_added(AddFault::TooManyTables, plans));
@@ -98,6 +100,7 @@ impl<N: SupNaming, J: Drop, S: Drop> System<N, J, S> {
         ensures there { IfOk result (λ top. top < self.now.tables) }
         ensures fault { IfErr result (λ back. IsAddFault plans.items back.fault) }
         ensures back { IfErr result (IsGivenBack plans.items) }
+        ensures occupied { IfErr result (λ back. IsOccupiedOnly N.plan back.fault) }
     {
         let mut guard = growth.desk.lock(rt);
         let desk = &mut *guard;

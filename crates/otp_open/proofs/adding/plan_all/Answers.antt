@@ -1,10 +1,11 @@
-use Rattle.std.proofs.Common.{◌≡◌, ◌+◌, ◌<◌, ◌∙◌, length, ap, subst, arith}
+use Rattle.std.proofs.Common.{◌≡◌, ◌+◌, ◌<◌, ◌∙◌, length, ap, rules, subst, sym, arith}
 use Rattle.std.specs.Prelude.{All}
 use Rattle.otp_draft.specs.Plans.{IsNear}
 use Rattle.otp_open.specs.Adds.{Fit}
 use Rattle.otp_open.specs.Plans.{HasBodies}
 use Rattle.otp_open.proofs.Adds.{fit_next, of_next, of_others, some_space}
 use Rattle.otp_open.proofs.adding.plan_all.Goals as goal
+use Rattle.otp_open.proofs.adding.plan_all.Goals.{then-not-plan_one, else-not-plan_one}
 
 pub next_of-space-requires : goal.next_of-space-requires
 next_of-space-requires g c =
@@ -16,7 +17,7 @@ next_of-space-requires g c =
 
 pub plan_one-requires-clause-free : goal.plan_one-requires-clause-free
 plan_one-requires-clause-free g c =
-    ap g.N.PlanNaming.plan (c.in-Some-sup_at.ensures {u = tt}) ∙ c.requires.free c.loop-plan.number c.loop-plan.invariant.from_first
+    ap g.N.PlanNaming.plan (c.in-Some-sup_at.ensures {u = tt}).there ∙ c.requires.free c.loop-plan.number c.loop-plan.invariant.from_first
 
 pub plan_one-requires-clause-few : goal.plan_one-requires-clause-few
 plan_one-requires-clause-few g c =
@@ -56,4 +57,8 @@ loop-plan-preserved g c =
       bodies = of_others HasBodies _ _ _ next i.bodies;
       near = of_others (λ plan. All IsNear plan.bodies.items) _ _ _ next i.near;
       fit = (fit_next _ _ _ _ _ _ next spaces i.fit).1;
+      occupied =
+          elim c.if-not-plan_one.branch
+          [ then-not-plan_one w ↦ (λ none. (c.in-Some-sup_at.sup.now.inbox, c.plan_one.ensures (search rules)))
+          | else-not-plan_one w ↦ (λ none. i.occupied (sym w.are_all-is ∙ none)) ];
     }

@@ -1,5 +1,5 @@
-use Rattle.std.proofs.Common.{◌≡◌, ◌+◌, ◌≤◌, length}
-use Rattle.otp_open.specs.Adds.{AreNear, Fit}
+use Rattle.std.proofs.Common.{◌≡◌, ◌+◌, ◌≤◌, false, length}
+use Rattle.otp_open.specs.Adds.{AreNear, Fit, IsAnyOccupied}
 use Rattle.otp_open.specs.Plans.{HaveBodies}
 use Rattle.otp_open.proofs.adding.plan_all.Given as goal
 
@@ -13,4 +13,5 @@ invariant-loop-plan g l =
       bodies : HaveBodies l.plan-iterator.rest.items;
       near : AreNear l.plan-iterator.rest.items;
       fit : Fit l.plan-iterator.rest.items l.spaces.rest.items;
+      occupied : l.are_all ≡ false → IsAnyOccupied g.N.PlanNaming.plan;
     }
