@@ -11,9 +11,10 @@ ghost use Rattle.otp_running.specs.Running.{IsEndOfRun, IsSaid, IsTreeRun, endin
 use crate::standing::draw_standing;
 use otp_ending::{ProgramEnd, write_three};
 use otp_file::{TreeFault, TreeSpec, read_tree};
-use otp_jobs::{FileRunFault, Settings, run_worked};
+use otp_jobs::{FileRunFault, run_worked};
 use otp_objects::write_run_object;
 use otp_outcome::{Limit, write_awaited, write_lives};
+use otp_roles::Settings;
 use otp_sim::{Failed, Output, write_all};
 use otp_starts::find_unfit;
 use otp_text::write_number;

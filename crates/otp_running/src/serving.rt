@@ -4,7 +4,8 @@ ghost use Rattle.std.specs.Prelude.{◌≡◌, ◌≤◌, ◌||◌, ◌++◌, So
 ghost use Rattle.std.specs.Option.{option_map};
 ghost use Rattle.otp_ending.specs.Told.{TellsFirst};
 ghost use Rattle.otp_file.specs.Trees.{tables_of};
-ghost use Rattle.otp_jobs.specs.Plans.{plan_fault, supervisors_of};
+ghost use Rattle.otp_roles.specs.Faults.{plan_fault};
+ghost use Rattle.otp_jobs.specs.Plans.{supervisors_of};
 ghost use Rattle.otp_jobs.specs.Runs.{IsOfRun, IsTooManyOnly, run_fault};
 ghost use Rattle.otp_running.specs.Running.{IsTreeServed};
 ghost use Rattle.otp_serve.specs.Serves.{served_text};
@@ -14,9 +15,10 @@ use crate::running::{Pool, ending_of_live, explain, refuse_run, remarks_on, say,
 use crate::watching::AtPaths;
 use otp_ending::ProgramEnd;
 use otp_file::TreeSpec;
-use otp_jobs::{FileRunFault, Settings};
+use otp_jobs::FileRunFault;
 use otp_live::{Span, Unwatched, Watch};
 use otp_outcome::Limit;
+use otp_roles::Settings;
 use otp_serve::{PatientReport, serve_worked};
 use otp_sim::{Failed, Output, write_all};
 use otp_trial::plant_seats;

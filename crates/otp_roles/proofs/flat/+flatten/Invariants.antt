@@ -2,8 +2,8 @@ use Rattle.std.proofs.Common.{◌≡◌, ◌++◌, ◌≤◌, map, length}
 use Rattle.std.specs.List.{flat_map}
 use Rattle.std.specs.Vec.Iter.{into_iter_items}
 use Rattle.otp_file.specs.Trees.{tables_of}
-use Rattle.otp_jobs.specs.Plans.{table_seen}
-use Rattle.otp_jobs.proofs.flat.+flatten.Given as goal
+use Rattle.otp_roles.specs.Faults.{table_seen}
+use Rattle.otp_roles.proofs.flat.+flatten.Given as goal
 
 abbrev pub decreases-flatten : goal.decreases-flatten
 decreases-flatten l = goal.size-flatten l

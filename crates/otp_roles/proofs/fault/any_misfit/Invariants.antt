@@ -1,7 +1,7 @@
 use Rattle.std.proofs.Common.{◌≡◌, drop, map}
 use Rattle.std.specs.List.{list_any}
-use Rattle.otp_jobs.specs.Plans.{has_misfit, table_seen}
-use Rattle.otp_jobs.proofs.plan.any_misfit.Given as goal
+use Rattle.otp_roles.specs.Faults.{has_misfit, table_seen}
+use Rattle.otp_roles.proofs.fault.any_misfit.Given as goal
 
 abbrev pub invariant-loop-table : goal.invariant-loop-table
 invariant-loop-table l =

@@ -1,6 +1,6 @@
 //! What a worked job does, and the word for it.
 ghost use Rattle.std.specs.Prelude.{◌≡◌, Some};
-ghost use Rattle.otp_jobs.specs.Jobs.{work_of, work_word};
+ghost use Rattle.otp_roles.specs.Roles.{work_of, work_word};
 
 /// What a worked job does with its starts and turns.
 #[derive(Clone, Copy, Debug, PartialEq, Eq)]
@@ -23,7 +23,7 @@ pub enum Work {
 
 impl Work {
     /// Its word, as `start` of a tree file has it.
-    #[tactic(auto, unfolding(crate::specs::Jobs::work_word, crate::specs::Jobs::work_of))]
+    #[tactic(auto, unfolding(crate::specs::Roles::work_word, crate::specs::Roles::work_of))]
     pub fn word(self) -> &'static str
         ensures word { result.now ≡ work_word self }
         ensures read_back { work_of result.now ≡ Some self }
@@ -40,7 +40,7 @@ impl Work {
     }
 
     /// The work of a word, if it is the word of one.
-    #[tactic(auto, unfolding(crate::specs::Jobs::work_of))]
+    #[tactic(auto, unfolding(crate::specs::Roles::work_of))]
     pub fn of_word(word: &[u8]) -> Option<Work>
         ensures { result ≡ work_of word.now }
     {
