@@ -13,7 +13,7 @@ use Rattle.otp_jobs.specs.declared.run.FileRunFault.TheVariants as run
 use Rattle.otp_jobs.specs.declared.worker.WorkedJob.{WorkedJob}
 use Rattle.otp_sim.specs.Devices.{Written}
 use Rattle.otp_starts.specs.Unfit.{HasStarts, IsRunnable}
-use Rattle.otp_objects.specs.Runs.{TellsRun}
+use Rattle.otp_outcome.specs.Object.{TellsRun}
 use Rattle.otp_serve.specs.Serves.{served_text}
 use Rattle.otp_serve.specs.declared.patient.PatientJob.{PatientJob}
 use Rattle.otp_close.specs.Closes.{HaveBegun, IsReportOf}

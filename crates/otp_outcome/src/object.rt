@@ -1,11 +1,11 @@
 //! What came of a run, as an object.
 
 ghost use Rattle.std.specs.Prelude.{◌≡◌, ◌++◌, OnOk};
-ghost use Rattle.otp_objects.specs.Runs.{TellsRun, counts_text, end_member, run_text, supervisor_text, supervisors_text, why_member};
+ghost use Rattle.otp_outcome.specs.Object.{TellsRun, counts_text, end_member, run_text, supervisor_text, supervisors_text, why_member};
 
+use crate::life::{supervisor_name, write_end};
 use otp_file::TreeSpec;
 use otp_json::{put_key, put_number, put_text};
-use otp_outcome::{supervisor_name, write_end};
 use otp_reason::Reason;
 use otp_text::write_reason;
 use otp_tree::TableReport;
@@ -13,7 +13,7 @@ use otp_trial::{Seat, plant_seats};
 use std::alloc::{AllocError, Global};
 
 /// Appends the path of a supervisor, how many starts it ordered, and how many restarts it made.
-#[tactic(auto, unfolding(crate::specs::Runs::counts_text))]
+#[tactic(auto, unfolding(crate::specs::Object::counts_text))]
 fn write_counts(seat: &Seat, report: &TableReport, out: &mut Vec<u8>) -> Result<(), AllocError>
     ensures { OnOk result (out.new.items ≡ out.old.items ++ counts_text seat.now.path report.now.core) }
 {
@@ -23,7 +23,7 @@ fn write_counts(seat: &Seat, report: &TableReport, out: &mut Vec<u8>) -> Result<
 }
 
 /// Appends the reason of the last end of a supervisor, `null` where there is none. The word is a place for a text.
-#[tactic(auto, unfolding(crate::specs::Runs::end_member))]
+#[tactic(auto, unfolding(crate::specs::Object::end_member))]
 fn write_end_member(
     end: Option<Reason>,
     word: &mut Vec<u8>,
@@ -42,7 +42,7 @@ fn write_end_member(
 }
 
 /// Appends why a supervisor ended, or that it hasn't. The word is a place for a text.
-#[tactic(auto, unfolding(crate::specs::Runs::why_member))]
+#[tactic(auto, unfolding(crate::specs::Object::why_member))]
 fn write_why(
     seat: &Seat,
     report: &TableReport,
@@ -57,7 +57,7 @@ fn write_why(
 }
 
 /// Appends the object of a supervisor. The word is a place for a text.
-#[tactic(auto, unfolding(crate::specs::Runs::supervisor_text))]
+#[tactic(auto, unfolding(crate::specs::Object::supervisor_text))]
 fn write_supervisor(
     seat: &Seat,
     report: &TableReport,
@@ -73,7 +73,7 @@ fn write_supervisor(
 }
 
 /// Appends the objects of supervisors, by their numbers, each behind a comma but the first.
-#[tactic(auto, unfolding(crate::specs::Runs::supervisors_text))]
+#[tactic(auto, unfolding(crate::specs::Object::supervisors_text))]
 fn write_supervisors(
     front: &[u8],
     seats: &[Seat],
@@ -97,7 +97,7 @@ fn write_supervisors(
 }
 
 /// Appends the object of a run of a file's tree, a line.
-#[tactic(auto, unfolding(crate::specs::Runs::run_text))]
+#[tactic(auto, unfolding(crate::specs::Object::run_text))]
 fn write_run(
     alloc: Global,
     name: &[u8],
