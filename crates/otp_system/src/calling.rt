@@ -6,7 +6,7 @@ ghost use Rattle.otp_core.specs.declared.reply.ReplyAnswer.TheVariants as answer
 ghost use Rattle.otp_bodies.specs.Bodies.{is_left_of};
 ghost use Rattle.otp_sup.specs.Turns.{HadBody, HasReply};
 ghost use Rattle.otp_hand.specs.Standings.{reach_of};
-ghost use Rattle.otp_tree.specs.Callings.{Called, IsNotSent, IsUnsendable, Reaches, fits_call, has_time, is_nested, is_no_table, is_of_type};
+ghost use Rattle.otp_system.specs.Callings.{Called, IsNotSent, IsUnsendable, Reaches, fits_call, has_time, is_nested, is_no_table, is_of_type};
 
 use crate::system::System;
 use otp_core::ReplyAnswer;
@@ -26,7 +26,7 @@ pub enum CallRefusal {
     /// E21: the tree has no supervisor of this number.
     NoSupervisor,
     /// E19: a call that starts a child has no body, or one that the child may not run, or another call has one. A worker
-    /// runs a job or a bridge; a supervisor runs a bridge, or is the top of supervisors that were added ([`System::add_tree`]).
+    /// runs a job or a bridge; a supervisor runs a bridge, or is the top of supervisors that were added (`add_tree` of `otp_tree`).
     WrongBody,
     /// E16: the child is a supervisor that was added, and has less time to shut down than it wants.
     NotInfinity,
@@ -71,7 +71,7 @@ impl<N: SupNaming, J: Drop, S: Drop> System<N, J, S> {
         let Some(Body::Sup(top)) = body else {
             return true;
         };
-        match &self.growth {
+        match self.growth() {
             Some(growth) => growth.has_top(top.number()),
             None => false,
         }

@@ -7,7 +7,7 @@ use otp_job::Ticket;
 /// written: each does nothing by default.
 ///
 /// Whoever lets hands sleep wakes one by it for a letter: a supervisor that waits in a hand has its next turn in that hand alone, and so
-/// has a job that waits. For a signal the hand that posts it wakes the one in which that child waits ([`Hand::open_post`](crate::Hand)).
+/// has a job that waits. For a signal the hand that posts it wakes the one in which that child waits ([`Hand::open_post`](otp_hand::Hand)).
 pub trait Listener {
     /// A letter has gone, which tells that this happened to the process with this ticket. It went to the supervisor whose number the
     /// ticket has, or to whoever opened the tree, who has the number behind the last.

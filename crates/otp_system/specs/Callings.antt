@@ -14,8 +14,8 @@ use Rattle.otp_spec.specs.declared.child.ChildType.TheVariants as kind
 use Rattle.otp_spec.specs.declared.child.Shutdown.{Shutdown}
 use Rattle.otp_spec.specs.declared.child.Shutdown.TheVariants as shutdown
 use Rattle.otp_spec.specs.Supervisor.{Supervisor}
-use Rattle.otp_tree.specs.declared.calling.CallRefusal.{CallRefusal}
-use Rattle.otp_tree.specs.declared.calling.CallRefusal.TheVariants as refusal
+use Rattle.otp_system.specs.declared.calling.CallRefusal.{CallRefusal}
+use Rattle.otp_system.specs.declared.calling.CallRefusal.TheVariants as refusal
 use Rattle.otp_hand.specs.Hands.{ClientView}
 
 abbrev pub is_infinity : Shutdown → Bool

@@ -6,8 +6,8 @@ use Rattle.otp_reason.specs.declared.reason.Reason.{Reason}
 use Rattle.otp_rules.specs.declared.ending.Cause.{Cause}
 use Rattle.otp_rules.specs.declared.ending.Cause.TheVariants as cause
 use Rattle.otp_rules.specs.declared.ending.SupEnd.{SupEnd}
-use Rattle.otp_tree.specs.declared.happening.Happening.{Happening}
-use Rattle.otp_tree.specs.declared.happening.Happening.TheVariants.{Started, Restarted, Ignored, Failed, Exited, Stopped, GaveUp, ShutDown}
+use Rattle.otp_system.specs.declared.happening.Happening.{Happening}
+use Rattle.otp_system.specs.declared.happening.Happening.TheVariants.{Started, Restarted, Ignored, Failed, Exited, Stopped, GaveUp, ShutDown}
 
 -- the end of a supervisor, by what shows why: its parent asked, its restarts were too many, or a significant child had ended
 abbrev pub exited_by : ℕ → Reason → Cause → Happening

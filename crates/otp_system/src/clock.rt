@@ -21,7 +21,7 @@ pub trait Gate {
     /// the hand's own thread, so a gate may sleep there. It needn't be written.
     fn idle(&self, _hand: usize) {}
 
-    /// Told now and then by [`run_tree_counted`](crate::run_tree_counted), while no hand makes a turn: how many turns each hand
-    /// has made, of how many in all, and what each supervisor published last of its children. It needn't be written.
+    /// Told now and then by `run_tree_counted` of `otp_tree`, while no hand makes a turn: how many turns each hand has made, of how
+    /// many in all, and what each supervisor published last of its children. It needn't be written.
     fn saw(&self, _made: u64, _of: u64, _counts: &[CountsNow]) {}
 }

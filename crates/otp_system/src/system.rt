@@ -1,14 +1,13 @@
 //! The tree: its supervisors, which the hands share.
-ghost use Rattle.std.specs.Prelude.{◌≡◌, ◌↔◌, ◌<◌, ◌≤◌, is_some, length, true, IfNone, IfSome, IsTrue};
+ghost use Rattle.std.specs.Prelude.{◌≡◌, ◌↔◌, ◌<◌, ◌≤◌, ℕ, None, is_some, length, true, IfNone, IfSome, IsTrue};
 ghost use Rattle.otp_signals.specs.Holdings.{after_post};
 ghost use Rattle.otp_signals.specs.Signals.{word_of};
 ghost use Rattle.otp_signals.specs.declared.signal.Signal.TheVariants.{Shutdown};
-ghost use Rattle.otp_close.specs.Closes.{IsFreeFrom};
 ghost use Rattle.otp_hand.specs.declared.client.TheConstants.{ROOT_NUMBER, ROOT_SLOT};
 ghost use Rattle.otp_hand.specs.Hands.{Heard};
 ghost use Rattle.otp_hand.specs.Readings.{HasRead};
 ghost use Rattle.otp_hand.specs.Standings.{reach_of};
-ghost use Rattle.otp_tree.specs.Hearings.{HeardNothing};
+ghost use Rattle.otp_system.specs.Hearings.{HeardNothing};
 
 use crate::growth::Growth;
 use otp_hand::ending::count_end;
@@ -27,7 +26,7 @@ use std::sync::Wait;
 pub struct System<N: SupNaming, J: Drop, S: Drop> {
     pub(crate) shared: Shared<N, J, S>,
     /// None where no supervisor can be added.
-    pub(crate) growth: Option<Growth<N>>,
+    growth: Option<Growth<N>>,
 }
 
 impl<N: SupNaming, J: Drop, S: Drop> Model for System<N, J, S> {
@@ -36,6 +35,37 @@ impl<N: SupNaming, J: Drop, S: Drop> Model for System<N, J, S> {
     ghost Value = { SystemView };
 
     ghost view = { λ s. s.shared };
+}
+
+/// For whoever opens a tree, adds supervisors to it, or takes it apart, as `otp_tree` does. Whoever uses a tree needs none of these.
+impl<N: SupNaming, J: Drop, S: Drop> System<N, J, S> {
+    /// A tree of what its hands share. Supervisors can be added where it comes with what was opened for that, for this tree
+    /// ([`Growth::open`]).
+    pub fn of_parts(shared: Shared<N, J, S>, growth: Option<Growth<N>>) -> Self
+        ensures { result ≡ shared }
+    {
+        System { shared, growth }
+    }
+
+    /// Both, as they are.
+    pub fn into_parts(self) -> (Shared<N, J, S>, Option<Growth<N>>)
+        ensures { result.0 ≡ self }
+    {
+        let System { shared, growth } = self;
+        (shared, growth)
+    }
+
+    /// What its hands share.
+    pub fn shared(&self) -> &Shared<N, J, S>
+        ensures { result.now ≡ self.now }
+    {
+        &self.shared
+    }
+
+    /// By what supervisors are added. None where that can't be.
+    pub fn growth(&self) -> Option<&Growth<N>> {
+        self.growth.as_ref()
+    }
 }
 
 impl<N: SupNaming, J: Drop, S: Drop> System<N, J, S> {
@@ -81,20 +111,9 @@ impl<N: SupNaming, J: Drop, S: Drop> System<N, J, S> {
         }
     }
 
-    /// The same tree, to which supervisors can be added.
-    pub(crate) fn growing(self, growth: Growth<N>) -> Self
-        ensures { result ≡ self }
-    {
-        let System { shared, growth: _ } = self;
-        System {
-            shared,
-            growth: Some(growth),
-        }
-    }
-
     /// How many of its places have a supervisor, at least: no other had a plan when the tree got its name.
-    pub(crate) fn known<R: Wait>(&self, rt: &R) -> usize
-        ensures { IsFreeFrom N.plan self.now.tables result }
+    pub fn known<R: Wait>(&self, rt: &R) -> usize
+        ensures { (k : ℕ) → result ≤ k → k < self.now.tables → N.plan k ≡ None }
     {
         match &self.growth {
             None => self.shared.tables(),

@@ -1,6 +1,6 @@
 //! What happens to the processes of a tree.
 ghost use Rattle.std.specs.Prelude.{◌≡◌, option_copied};
-ghost use Rattle.otp_tree.specs.Happenings.{exited_by, happening_of};
+ghost use Rattle.otp_system.specs.Happenings.{exited_by, happening_of};
 
 use otp_reason::{Note, Reason};
 use otp_rules::{Cause, SupEnd};

@@ -48,25 +48,6 @@ where
     );
 }
 
-/// The same with a whole list of hands: of one that was lent as a slice in the midst of a function the prover knows nothing after.
-pub(crate) fn pool_all<N, J, S, R, G>(
-    rt: &R,
-    system: &System<N, J, S>,
-    hands: &mut Vec<Hand<N, J, S>>,
-    gate: &G,
-    turns: u64,
-)
-where
-    N: TreeNaming + Send + Sync,
-    J: Job + Send,
-    S: Subsystem + Send,
-    R: Threads + Wait + Sync,
-    G: Gate + Sync,
-    ensures { standings hands.new.items ≡ standings hands.old.items }
-{
-    pool_run(rt, system, hands, gate, turns);
-}
-
 /// Gives a hand so many turns beside others.
 fn serve_beside<N, J, S, R, G>(
     rt: &R,

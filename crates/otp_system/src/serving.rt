@@ -1,7 +1,7 @@
 //! How a hand serves a tree: a turn at a time.
 ghost use Rattle.std.specs.Prelude.{◌≤◌, ◌≡◌, IsTrue, None, Some};
 ghost use Rattle.otp_spec.specs.declared.limits.TheConstants.{MAX_READING};
-ghost use Rattle.otp_tree.specs.Servings.{SentOrKept};
+ghost use Rattle.otp_system.specs.Servings.{SentOrKept};
 ghost use Rattle.otp_hand.specs.Standings.{standing_of};
 
 use crate::clock::Millis;

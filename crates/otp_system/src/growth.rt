@@ -1,5 +1,5 @@
 //! Supervisors that a tree gets while it runs: how many there are, under one lock, and which of them each call added.
-ghost use Rattle.std.specs.Prelude.{◌≡◌, ◌+◌, ◌<◌, ◌≤◌, ◌^◌, ℕ, IfNone, IfOk, IfSome, IsTrue, None, is_some, true};
+ghost use Rattle.std.specs.Prelude.{◌≡◌, ◌+◌, ◌<◌, ◌≤◌, ◌^◌, ℕ, IfNone, IfOk, IfSome, IsTrue, None, OnErr, OnOk, is_some, true};
 
 use otp_sup::PlanNaming;
 use std::alloc::{AllocError, Global};
@@ -10,7 +10,7 @@ use std::sync::{Mutex, Wait};
 ///
 /// None of the places from there on had a plan when the tree got its name.
 #[derive(Drop)]
-pub(crate) struct Desk<N: PlanNaming> {
+pub struct Desk<N: PlanNaming> {
     tables: usize,
     of: PhantomData<N>,
 }
@@ -38,7 +38,7 @@ impl<N: PlanNaming> Desk<N> {
     }
 
     /// How many there are.
-    pub(crate) fn tables(&self) -> usize
+    fn tables(&self) -> usize
         ensures value { result ≡ self.now }
         ensures free { (k : ℕ) → result ≤ k → N.plan k ≡ None }
     {
@@ -47,7 +47,7 @@ impl<N: PlanNaming> Desk<N> {
     }
 
     /// The number that the first of so many more would have, where there are so many places. None where those are too few.
-    pub(crate) fn first_for(&self, count: usize, places: usize) -> Option<usize>
+    pub fn first_for(&self, count: usize, places: usize) -> Option<usize>
         ensures first { IfSome result (λ first. first ≡ self.now) }
         ensures few { IfSome result (λ first. first + count ≤ places) }
         ensures free { IfSome result (λ first. (k : ℕ) → first ≤ k → N.plan k ≡ None) }
@@ -64,7 +64,7 @@ impl<N: PlanNaming> Desk<N> {
     }
 
     /// So many more are there.
-    pub(crate) fn take(&mut self, count: usize)
+    fn take(&mut self, count: usize)
         requires { self.old + count < 2 ^ 64 }
         ensures { self.new ≡ self.old + count }
     {
@@ -75,7 +75,7 @@ impl<N: PlanNaming> Desk<N> {
 
 /// Which supervisors a call added: so many, from this number on.
 #[derive(Clone, Copy, Debug, PartialEq, Eq)]
-pub(crate) struct Added {
+struct Added {
     first: usize,
     count: usize,
 }
@@ -88,10 +88,10 @@ impl Added {
 
 /// What a tree has that may get supervisors while it runs.
 #[derive(Drop)]
-pub(crate) struct Growth<N: PlanNaming> {
+pub struct Growth<N: PlanNaming> {
     /// How many it was opened with.
     opened: usize,
-    pub(crate) desk: Mutex<Desk<N>>,
+    desk: Mutex<Desk<N>>,
     /// An entry for each call that added some. Whoever looks for a supervisor walks over them, without a lock.
     added: boxcar::Vec<Added>,
 }
@@ -108,7 +108,7 @@ impl<N: PlanNaming> Model for Growth<N> {
 
 impl<N: PlanNaming> Growth<N> {
     /// The tree was opened with so many supervisors, and no other had a plan when it got its name.
-    pub(crate) fn open(alloc: Global, opened: usize) -> Result<Self, AllocError>
+    pub fn open(alloc: Global, opened: usize) -> Result<Self, AllocError>
         requires { (k : ℕ) → opened ≤ k → N.plan k ≡ None }
         ensures { IfOk result (λ growth. growth ≡ opened) }
     {
@@ -120,15 +120,31 @@ impl<N: PlanNaming> Growth<N> {
         })
     }
 
-    /// Notes that a call adds so many supervisors, from this number on. Nothing is noted where memory is refused.
-    pub(crate) fn note<R: Wait>(
+    /// The one lock of all who add supervisors.
+    pub fn desk(&self) -> &Mutex<Desk<N>> {
+        &self.desk
+    }
+
+    /// Adds so many supervisors, from the number on that the first of them has ([`Desk::first_for`]), by the desk that the caller holds
+    /// locked. Whoever looks for them meets them from now on, so each place is to get its plan before the desk is let go.
+    ///
+    /// Nothing is added where memory is refused.
+    pub fn take<R: Wait>(
         &self,
         rt: &R,
-        first: usize,
+        desk: &mut Desk<N>,
         count: usize,
-    ) -> Result<(), AllocError> {
+    ) -> Result<(), AllocError>
+        requires { desk.old + count < 2 ^ 64 }
+        ensures ok { OnOk result (desk.new ≡ desk.old + count) }
+        ensures err { OnErr result (desk.new ≡ desk.old) }
+    {
+        let first = desk.tables();
         match self.added.push(rt, Added { first, count }) {
-            Ok(_) => Ok(()),
+            Ok(_) => {
+                desk.take(count);
+                Ok(())
+            }
             Err(_) => Err(AllocError),
         }
     }
