@@ -129,12 +129,7 @@ impl<N: PlanNaming> Growth<N> {
     /// locked. Whoever looks for them meets them from now on, so each place is to get its plan before the desk is let go.
     ///
     /// Nothing is added where memory is refused.
-    pub fn take<R: Wait>(
-        &self,
-        rt: &R,
-        desk: &mut Desk<N>,
-        count: usize,
-    ) -> Result<(), AllocError>
+    pub fn take<R: Wait>(&self, rt: &R, desk: &mut Desk<N>, count: usize) -> Result<(), AllocError>
         requires { desk.old + count < 2 ^ 64 }
         ensures ok { OnOk result (desk.new ≡ desk.old + count) }
         ensures err { OnErr result (desk.new ≡ desk.old) }
