@@ -74,7 +74,7 @@ impl<N: PlanNaming> Desk<N> {
 }
 
 /// Which supervisors a call added: so many, from this number on.
-#[derive(Clone, Copy, Debug, PartialEq, Eq)]
+#[derive(Clone, Copy)]
 struct Added {
     first: usize,
     count: usize,

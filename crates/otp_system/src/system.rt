@@ -39,8 +39,8 @@ impl<N: SupNaming, J: Drop, S: Drop> Model for System<N, J, S> {
 
 /// For whoever opens a tree, adds supervisors to it, or takes it apart, as `otp_tree` does. Whoever uses a tree needs none of these.
 impl<N: SupNaming, J: Drop, S: Drop> System<N, J, S> {
-    /// A tree of what its hands share. Supervisors can be added where it comes with what was opened for that, for this tree
-    /// ([`Growth::open`]).
+    /// A tree of what its hands share. Supervisors can be added where it has a [`Growth`]: the one that was opened for this tree, since
+    /// places are to be given out at one desk alone.
     pub fn of_parts(shared: Shared<N, J, S>, growth: Option<Growth<N>>) -> Self
         ensures { result ≡ shared }
     {
