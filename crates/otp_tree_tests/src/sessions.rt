@@ -10,8 +10,8 @@ use otp_job::Body;
 use otp_reason::{Note, Reason};
 use otp_rules::CountsNow;
 use otp_tree::{
-    Client, CloseFault, Hand, Session, System, TreeNaming, Unclosed, close_tree, with_growing_system,
-    with_system,
+    Client, CloseFault, Hand, Session, System, TreeNaming, Unclosed, close_tree,
+    with_growing_system, with_system,
 };
 use std::alloc::Global;
 use std::process::Abort;
