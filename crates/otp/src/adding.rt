@@ -58,7 +58,7 @@ where
 ///
 /// # Errors
 ///
-/// As [`TreeDraft::finish`], with the tree; or as [`System::add_tree`], with its plans.
+/// As [`TreeDraft::finish`], with the tree; or as [`otp_tree::add_tree`], with its plans.
 pub fn add_tree<N, R, J, S>(
     rt: &R,
     alloc: Global,
@@ -74,7 +74,7 @@ where
     ensures back { IfErr result (IsNotAdded tree) }
 {
     match plans(alloc, tree) {
-        Ok(plans) => match system.add_tree(rt, alloc, plans) {
+        Ok(plans) => match otp_tree::add_tree(rt, alloc, system, plans) {
             Ok(top) => Ok(Body::Sup(top)),
             Err(back) => Err(NotAdded::Unadded(back)),
         },

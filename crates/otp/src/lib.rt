@@ -122,6 +122,8 @@ pub use otp_tree::TreeNaming;
 pub use otp_tree::Unadded;
 pub use otp_tree::Uncalled;
 pub use otp_tree::Unopened;
+pub use otp_tree::close_tree;
+pub use otp_tree::finish_tree;
 pub use otp_tree::with_growing_system;
 pub use otp_tree::with_system;
 pub use running::GrowingTree;

@@ -7,7 +7,7 @@ use otp_core::ReplyAnswer;
 use otp_job::{Body, TableNo};
 use otp_rules::{Call, Reply};
 use otp_sup::SupNaming;
-use otp_tree::{CallRefusal, System, TablePlan, Unadded, Uncalled};
+use otp_tree::{CallRefusal, System, TablePlan, Unadded, Uncalled, add_tree};
 use otp_wake::{Bells, Stop};
 use std::alloc::{AllocError, Global};
 use std::marker::Model;
@@ -172,7 +172,7 @@ impl<J: Drop, S: Drop> Caller<J, S> {
     /// (`otp_live::run_growing`). The answer is the number of the first, [`Body::Sup`] of the call that makes it
     /// somebody's child ([`Caller::start_child`]): with a specification of type supervisor, and as much time to shut down as it wants.
     ///
-    /// The plans are as for [`System::add_tree`]; who has a draft has `otp::grow` for it.
+    /// The plans are as for [`add_tree`](otp_tree::add_tree); who has a draft has `otp::grow` for it.
     ///
     /// # Errors
     ///
@@ -298,7 +298,7 @@ impl<J: Drop, S: Drop> Caller<J, S> {
         match self.take_wanted(rt)? {
             Wanted::Call(call) => self.send(rt, alloc, system, client, call),
             Wanted::Tree(plans) => {
-                let added = match system.add_tree(rt, alloc, plans.into_all()) {
+                let added = match add_tree(rt, alloc, system, plans.into_all()) {
                     Ok(top) => Ok(top),
                     Err(back) => Err(AddError::Refused(back)),
                 };

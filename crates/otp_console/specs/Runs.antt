@@ -10,10 +10,9 @@ use Rattle.otp_sim.specs.declared.engine.SimEnd.TheVariants as sim
 use Rattle.otp_sim.specs.Runs.{Writes}
 use Rattle.otp_sim.specs.Sim.{opened}
 use Rattle.otp_check.specs.Checks.{IsFirstFault}
-use Rattle.otp_jobs.specs.declared.plan.PlanFault.{PlanFault}
+use Rattle.otp_roles.specs.declared.fault.PlanFault.{PlanFault}
 use Rattle.otp_starts.specs.Unfit.{HasStarts, IsRunnable}
 use Rattle.otp_ending.specs.Devices.{Files, HasTree, IsUnread}
-use Rattle.otp_running.specs.Running.{IsTreeRun, IsTreeServed}
 use Rattle.otp_ending.specs.Statuses.{status_of}
 use Rattle.otp_ending.specs.Told.{IsSmall, IsUnreadEnd, Tells, TellsFirst, goes_on, worse}
 use Rattle.otp_ending.specs.declared.ending.Unwritten.{Unwritten}
@@ -21,6 +20,7 @@ use Rattle.otp_ending.specs.declared.ending.ProgramEnd.{ProgramEnd}
 use Rattle.otp_ending.specs.declared.ending.ProgramEnd.TheVariants.{Done, WordsRefused, NoCommand, WordNotText, FileAsCommand, TreeNotRead, FileNotRead, TreeRefused, FaultsFound, LineRefused, HistoryFull, InputFailed, OutputFailed, OutOfMemory, UnknownClock, NotATime, NeedsFor, CountsTurns}
 use Rattle.otp_words.specs.declared.words.Command.{Command}
 use Rattle.otp_words.specs.declared.words.Command.TheVariants as command
+use Rattle.otp_console.specs.Trees.{TreeRuns}
 use Rattle.otp_console.specs.Used.{Uses}
 
 -- the file says a tree, and its supervisor was played to this end
@@ -104,28 +104,28 @@ ChecksFirst {T} starts Holds names ending old new =
 abbrev pub ChecksAll : {T : Type 0} → Bool → (T → List ℕ → Type 0) → List T → ProgramEnd → Written → Written → Type 0
 ChecksAll starts Holds names ending old new = ChecksEach starts Holds names Done ending old new ⊎ ChecksFirst starts Holds names ending old new
 
--- a run on threads of the tree of a file whose bytes are known to be so: it can't be read, or it was run
-abbrev pub RunsTree : (List ℕ → Type 0) → Bool → List ℕ → Bool → ProgramEnd → Written → Written → Type 0
-RunsTree Holds is_json name counted ending old new =
+-- a run of the tree of a file whose bytes are known to be so: it can't be read, or it was run
+abbrev pub RunsTree : TreeRuns → (List ℕ → Type 0) → Bool → List ℕ → Bool → ProgramEnd → Written → Written → Type 0
+RunsTree trees Holds is_json name counted ending old new =
     (IsUnreadEnd ending × (new ≡ old))
-    ⊎ ((file : List ℕ) × (Holds file × IsTreeRun is_json name counted ending file old new))
+    ⊎ ((file : List ℕ) × (Holds file × trees.by_turns is_json name counted ending file old new))
 
 -- the tree of such a file was served for a time
-abbrev pub ServesTree : (List ℕ → Type 0) → Bool → List ℕ → ProgramEnd → Written → Written → Type 0
-ServesTree Holds is_json name ending old new =
+abbrev pub ServesTree : TreeRuns → (List ℕ → Type 0) → Bool → List ℕ → ProgramEnd → Written → Written → Type 0
+ServesTree trees Holds is_json name ending old new =
     (IsUnreadEnd ending × (new ≡ old))
-    ⊎ ((file : List ℕ) × (Holds file × IsTreeServed is_json name ending file old new))
+    ⊎ ((file : List ℕ) × (Holds file × trees.for_a_time is_json name ending file old new))
 
 -- what a command asks for was done
-abbrev pub Does : Files → Command → ProgramEnd → Devices → Devices → Type 0
-Does known (command.Sim file) ending old new = Simulates (known.holds file.now) ending old new
-Does known (command.Check files checking) ending old new =
+abbrev pub Does : Files → TreeRuns → Command → ProgramEnd → Devices → Devices → Type 0
+Does known trees (command.Sim file) ending old new = Simulates (known.holds file.now) ending old new
+Does known trees (command.Check files checking) ending old new =
     IsUnread old new × ChecksAll checking.has_starts (λ name. known.holds name.now) files.items ending old.output new.output
-Does known (command.Run file settings shows) ending old new =
-    IsUnread old new × RunsTree (known.holds file.now) shows.is_json file.now settings.counted ending old.output new.output
-Does known (command.Serve file settings serving shows) ending old new =
-    IsUnread old new × ServesTree (known.holds file.now) shows.is_json file.now ending old.output new.output
-Does known (command.Use file usage) ending old new = Uses known file.now usage ending old new
+Does known trees (command.Run file settings shows) ending old new =
+    IsUnread old new × RunsTree trees (known.holds file.now) shows.is_json file.now settings.counted ending old.output new.output
+Does known trees (command.Serve file settings serving shows) ending old new =
+    IsUnread old new × ServesTree trees (known.holds file.now) shows.is_json file.now ending old.output new.output
+Does known trees (command.Use file usage) ending old new = Uses known file.now usage ending old new
 
 -- a picture of the tree that is run is told besides, or why its supervisors ended, where the command asks for it
 abbrev pub draws : Command → Bool
@@ -134,21 +134,21 @@ draws (command.Serve file settings serving shows) = shows.is_drawn || shows.is_w
 draws _ = false
 
 -- what the words ask for was done, for some command, with a picture or without; or the words alone were answered
-abbrev pub Obeys : Files → Bool → ProgramEnd → Devices → Devices → Type 0
-Obeys known drawn ending old new =
-    ((command : Command) × ((draws command ≡ drawn) × Does known command ending old new)) ⊎ ((drawn ≡ false) × Answers ending old new)
+abbrev pub Obeys : Files → TreeRuns → Bool → ProgramEnd → Devices → Devices → Type 0
+Obeys known trees drawn ending old new =
+    ((command : Command) × ((draws command ≡ drawn) × Does known trees command ending old new)) ⊎ ((drawn ≡ false) × Answers ending old new)
 
 -- what was done, and what was told before the program ends
-pub record IsObeyed (known : Files) (ending : ProgramEnd) (old new : Devices) (before now : Written) : Type 0 where
+pub record IsObeyed (known : Files) (trees : TreeRuns) (ending : ProgramEnd) (old new : Devices) (before now : Written) : Type 0 where
   pub drawn : Bool
-  pub done : Obeys known drawn ending old new
+  pub done : Obeys known trees drawn ending old new
   pub first : TellsFirst drawn ending before now
 
 -- a run of the program: how it ended, its status, what it did to its input and output, and what it told
-pub record IsProgramRun (known : Files) (status : ℕ) (old new : Devices) (before now : Written) : Type 0 where
+pub record IsProgramRun (known : Files) (trees : TreeRuns) (status : ℕ) (old new : Devices) (before now : Written) : Type 0 where
   pub ending : ProgramEnd
   pub drawn : Bool
   pub why : Unwritten
   pub status_is : status ≡ status_of ending
-  pub done : Obeys known drawn ending old new
+  pub done : Obeys known trees drawn ending old new
   pub told : Tells drawn why ending before now

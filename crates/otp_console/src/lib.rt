@@ -1,6 +1,6 @@
 //! The program, as a function of its words, its files, its input and two writers: `sim FILE` reads a tree file and then lines
-//! of standard input, and prints the orders of its supervisor; `check FILE` says what is wrong in the file. What runs trees is in
-//! `otp_running`, and questions about a tree are in `otp_questions`.
+//! of standard input, and prints the orders of its supervisor; `check FILE` says what is wrong in the file. What runs trees is
+//! handed in: `otp_running` has it. Questions about a tree are in `otp_questions`.
 #![tactic(auto)]
 
 pub mod checking;
@@ -8,4 +8,5 @@ pub mod console;
 mod objects;
 mod pages;
 pub mod program;
+pub mod runner;
 mod using;

@@ -10,25 +10,21 @@ ghost use Rattle.otp_words.specs.declared.words.WordsFault.TheVariants.{Clap};
 
 use crate::checking::{check_file, write_unread};
 use crate::console::console;
+use crate::runner::{RunAs, ServeAs, TreeRunner};
 use crate::using::use_named;
 use clap::Error;
-use otp_ending::{ProgramEnd, TreeFiles, Unread, read_run_file, read_small, tell};
-use otp_live::Watch;
-use otp_running::{Pool, RunAs, ServeAs, explain, run_file, serve_file};
+use otp_ending::{ProgramEnd, TreeFiles, Unread, explain, read_run_file, read_small, tell};
 use otp_sim::{Failed, Input, Output, write_all};
-use otp_tree::Gate;
 use otp_words::{Checking, Command, WordsFault, read_words};
 use std::alloc::Global;
-use std::sync::Wait;
-use std::thread::Threads;
-use std::time;
 
 /// Does what the words of the command line ask for, and gives the exit status.
 ///
 /// Orders and help are written to `output`. Why the program ends, if not well, is told on `errors`, and nothing else is. What
-/// happens to each process of a tree that is served is told the pool's watch alone, and that where `--log` asks for it.
-pub fn run<H, G, L, F, R, W, E>(
-    pool: &Pool<'_, H, G, L>,
+/// is done with a tree that is run is the runner's.
+pub fn run<T, F, R, W, E>(
+    alloc: Global,
+    runner: &T,
     words: Result<Vec<String>, WordsFault>,
     files: &F,
     input: &mut R,
@@ -36,24 +32,23 @@ pub fn run<H, G, L, F, R, W, E>(
     errors: &mut E,
 ) -> u8
 where
-    H: Threads + Wait + time::Clock + Sync,
-    G: Gate + Sync,
-    L: Watch + Sync,
+    T: TreeRunner,
     F: TreeFiles,
     R: Input,
     W: Output,
     E: Output,
-    ensures { IsProgramRun (F.known files.now) result
+    ensures { IsProgramRun (F.known files.now) T.runs result
         (devices (R.seen input.old) (W.seen output.old))
         (devices (R.seen input.new) (W.seen output.new)) (E.seen errors.old) (E.seen errors.new) }
 {
-    let ending = obey(pool, &words, files, input, output, errors);
+    let ending = obey(alloc, runner, &words, files, input, output, errors);
     tell(errors, ending, files.unwritten())
 }
 
 /// Does what the words ask for, the program's own name first, or answers them.
-fn obey<'a, H, G, L, F, R, W, E>(
-    pool: &Pool<'_, H, G, L>,
+fn obey<'a, T, F, R, W, E>(
+    alloc: Global,
+    runner: &T,
     words: &'a Result<Vec<String>, WordsFault>,
     files: &F,
     input: &mut R,
@@ -61,31 +56,30 @@ fn obey<'a, H, G, L, F, R, W, E>(
     errors: &mut E,
 ) -> ProgramEnd<'a>
 where
-    H: Threads + Wait + time::Clock + Sync,
-    G: Gate + Sync,
-    L: Watch + Sync,
+    T: TreeRunner,
     F: TreeFiles,
     R: Input,
     W: Output,
     E: Output,
-    ensures obeyed { IsObeyed (F.known files.now) result
+    ensures obeyed { IsObeyed (F.known files.now) T.runs result
         (devices (R.seen input.old) (W.seen output.old))
         (devices (R.seen input.new) (W.seen output.new)) (E.seen errors.old) (E.seen errors.new) }
     ensures kept { (E.seen errors.old).failures ≤ (E.seen errors.new).failures }
 {
     let words = match words {
         Ok(words) => words,
-        Err(fault) => return answer(pool.alloc, fault, output, errors),
+        Err(fault) => return answer(alloc, fault, output, errors),
     };
-    match read_words(pool.alloc, words) {
-        Ok(command) => do_command(pool, command, files, input, output, errors),
-        Err(fault) => answer(pool.alloc, &fault, output, errors),
+    match read_words(alloc, words) {
+        Ok(command) => do_command(alloc, runner, command, files, input, output, errors),
+        Err(fault) => answer(alloc, &fault, output, errors),
     }
 }
 
 /// Does what a command asks for.
-pub fn do_command<'a, H, G, L, F, R, W, E>(
-    pool: &Pool<'_, H, G, L>,
+pub fn do_command<'a, T, F, R, W, E>(
+    alloc: Global,
+    runner: &T,
     command: Command<'a>,
     files: &F,
     input: &mut R,
@@ -93,20 +87,17 @@ pub fn do_command<'a, H, G, L, F, R, W, E>(
     errors: &mut E,
 ) -> ProgramEnd<'a>
 where
-    H: Threads + Wait + time::Clock + Sync,
-    G: Gate + Sync,
-    L: Watch + Sync,
+    T: TreeRunner,
     F: TreeFiles,
     R: Input,
     W: Output,
     E: Output,
-    ensures done { Does (F.known files.now) command.entry result
+    ensures done { Does (F.known files.now) T.runs command.entry result
         (devices (R.seen input.old) (W.seen output.old))
         (devices (R.seen input.new) (W.seen output.new)) }
     ensures first { TellsFirst (draws command.entry) result (E.seen errors.old) (E.seen errors.new) }
     ensures kept { (E.seen errors.old).failures ≤ (E.seen errors.new).failures }
 {
-    let alloc = pool.alloc;
     match command {
         Command::Sim { file } => simulate(alloc, files, file, input, output, errors),
         Command::Check {
@@ -119,7 +110,7 @@ where
             shows,
         } => {
             let how = RunAs { settings, shows };
-            run_named(pool, files, file, how, output, errors)
+            run_named(runner, files, file, how, output, errors)
         },
         Command::Serve {
             file,
@@ -132,7 +123,7 @@ where
                 serving,
                 shows,
             };
-            serve_named(pool, files, file, how, output, errors)
+            serve_named(runner, files, file, how, output, errors)
         }
         Command::Use { file, usage } => use_named(alloc, files, file, usage, input, output, errors),
     }
@@ -163,9 +154,9 @@ fn simulate<'a, F: TreeFiles, R: Input, W: Output, E: Output>(
     }
 }
 
-/// Runs the tree of a file on threads.
-fn run_named<'a, H, G, L, F, W, E>(
-    pool: &Pool<'_, H, G, L>,
+/// Runs the tree of a file by turns.
+fn run_named<'a, T, F, W, E>(
+    runner: &T,
     files: &F,
     name: &'a str,
     how: RunAs,
@@ -173,25 +164,24 @@ fn run_named<'a, H, G, L, F, W, E>(
     errors: &mut E,
 ) -> ProgramEnd<'a>
 where
-    H: Threads + Wait + Sync,
-    G: Gate + Sync,
+    T: TreeRunner,
     F: TreeFiles,
     W: Output,
     E: Output,
-    ensures done { RunsTree ((F.known files.now).holds name.now) how.shows.is_json name.now
+    ensures done { RunsTree T.runs ((F.known files.now).holds name.now) how.shows.is_json name.now
         how.settings.counted result (W.seen output.old) (W.seen output.new) }
     ensures first { TellsFirst (how.shows.is_drawn || how.shows.is_why) result (E.seen errors.old) (E.seen errors.new) }
     ensures kept { (E.seen errors.old).failures ≤ (E.seen errors.new).failures }
 {
     match read_run_file(files, name, errors) {
-        Ok(file) => run_file(pool, name, &file, how, output, errors),
+        Ok(file) => runner.run_tree(name, &file, how, output, errors),
         Err(ending) => ending,
     }
 }
 
-/// Serves the tree of a file on threads for a time.
-fn serve_named<'a, H, G, L, F, W, E>(
-    pool: &Pool<'_, H, G, L>,
+/// Serves the tree of a file for a time.
+fn serve_named<'a, T, F, W, E>(
+    runner: &T,
     files: &F,
     name: &'a str,
     how: ServeAs,
@@ -199,18 +189,17 @@ fn serve_named<'a, H, G, L, F, W, E>(
     errors: &mut E,
 ) -> ProgramEnd<'a>
 where
-    H: Threads + Wait + time::Clock + Sync,
-    L: Watch + Sync,
+    T: TreeRunner,
     F: TreeFiles,
     W: Output,
     E: Output,
-    ensures done { ServesTree ((F.known files.now).holds name.now) how.shows.is_json name.now result
+    ensures done { ServesTree T.runs ((F.known files.now).holds name.now) how.shows.is_json name.now result
         (W.seen output.old) (W.seen output.new) }
     ensures first { TellsFirst (how.shows.is_drawn || how.shows.is_why) result (E.seen errors.old) (E.seen errors.new) }
     ensures kept { (E.seen errors.old).failures ≤ (E.seen errors.new).failures }
 {
     match read_run_file(files, name, errors) {
-        Ok(file) => serve_file(pool, name, &file, how, output, errors),
+        Ok(file) => runner.serve_tree(name, &file, how, output, errors),
         Err(ending) => ending,
     }
 }

@@ -15,7 +15,7 @@ use Rattle.otp_trial.specs.Taken.{taken_text}
 use Rattle.otp_ending.specs.declared.ending.Unwritten.{Unwritten}
 use Rattle.otp_ending.specs.declared.ending.Unwritten.TheVariants.{Closed, Since}
 use Rattle.otp_ending.specs.declared.ending.ProgramEnd.{ProgramEnd}
-use Rattle.otp_ending.specs.declared.ending.ProgramEnd.TheVariants.{Done, WordsRefused, NoCommand, WordNotText, FileAsCommand, TreeNotRead, FileNotRead, TreeRefused, NoTree, UnknownStart, NotFound, WrongBody, CloseMismatch, CloseMissing, FaultsFound, LineRefused, ScriptRefused, ScriptMissed, HistoryFull, InputFailed, OutputFailed, OutOfMemory, UnknownClock, NotATime, NeedsFor, CountsTurns, ExpectationFailed, NotFinished, NamesSupervisor, NotAGap, LogRefused, PageNotWritten}
+use Rattle.otp_ending.specs.declared.ending.ProgramEnd.TheVariants.{Done, WordsRefused, NoCommand, WordNotText, FileAsCommand, TreeNotRead, FileNotRead, TreeRefused, NoTree, UnknownStart, NotFound, WrongBody, CloseMismatch, CloseMissing, FaultsFound, LineRefused, ScriptRefused, ScriptMissed, HistoryFull, InputFailed, OutputFailed, OutOfMemory, UnknownClock, NotATime, NeedsFor, CountsTurns, ExpectationFailed, NotFinished, NamesSupervisor, NotAGap, LogRefused, PageNotWritten, RunsNoTrees}
 
 -- 0: done. 1: the tree, or a file. 2: the words. 3: the lines of the input. 4: the machine. 5: a line of a script. 6: what one
 -- expects. 7: a run that ran out of turns, or of time to stop
@@ -29,6 +29,7 @@ status_of NotATime = 2
 status_of NeedsFor = 2
 status_of CountsTurns = 2
 status_of FileAsCommand = 2
+status_of RunsNoTrees = 2
 status_of TreeNotRead = 1
 status_of FileNotRead = 1
 status_of (TreeRefused _) = 1
@@ -101,6 +102,7 @@ sentence_of NotATime = codes "error: --for and --grace want a time, as 500ms, 2s
 sentence_of NeedsFor = codes "error: --grace and --log need --for TIME\n"
 sentence_of CountsTurns = codes "error: --counts is of a run by turns, and --for is none\n"
 sentence_of FileAsCommand = codes "error: a file in the place of a command: say otp try FILE, or otp --help\n"
+sentence_of RunsNoTrees = codes "error: this program runs no trees; ./otp run FILE compiles the one that does\n"
 sentence_of TreeNotRead = codes "tree not read\n"
 sentence_of FileNotRead = []
 sentence_of (TreeRefused why) = codes "tree refused: E" ++ decimal (code_of why) ++ codes "\n"

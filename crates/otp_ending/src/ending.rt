@@ -1,9 +1,9 @@
 //! How the program ends, and what it tells of it.
 
-ghost use Rattle.std.specs.Prelude.{◌≡◌, ◌⊎◌, ◌≤◌, ◌<◌, ◌++◌, decimal, OnOk, OnErr};
+ghost use Rattle.std.specs.Prelude.{Bool, ◌≡◌, ◌⊎◌, ◌≤◌, ◌<◌, ◌++◌, decimal, OnOk, OnErr};
 ghost use Rattle.std.specs.IoError.{error_kind};
 ghost use Rattle.std.specs.Io.KnownBytes.{Appends};
-ghost use Rattle.otp_ending.specs.Told.{IsTold, goes_on, worse};
+ghost use Rattle.otp_ending.specs.Told.{IsTold, TellsFirst, goes_on, worse};
 ghost use Rattle.otp_ending.specs.Statuses.{IsOfFile, ending_of_no_tree, ending_of_tree, line_text, log_text, names_supervisor_text, no_gap_text, no_tree_text, not_found_text, not_written_text, said_text, sentence_of, status_of, sentence_since};
 ghost use Rattle.otp_ending.specs.declared.ending.ProgramEnd.TheVariants.{OutOfMemory, TreeNotRead};
 
@@ -40,6 +40,8 @@ pub enum ProgramEnd<'a> {
     CountsTurns,
     /// The words are a file's name, where a command is wanted.
     FileAsCommand,
+    /// The words ask to run a tree, of a program that runs none.
+    RunsNoTrees,
     /// The tree file of `sim` can't be read.
     TreeNotRead,
     /// A file can't be read, and it was told which and why.
@@ -99,6 +101,7 @@ impl<'a> ProgramEnd<'a> {
             ProgramEnd::FileNotRead | ProgramEnd::FaultsFound => 1,
             ProgramEnd::WordsRefused | ProgramEnd::NoCommand | ProgramEnd::WordNotText => 2,
             ProgramEnd::FileAsCommand | ProgramEnd::NotFound(_) | ProgramEnd::UnknownClock => 2,
+            ProgramEnd::RunsNoTrees => 2,
             ProgramEnd::NotATime | ProgramEnd::NeedsFor | ProgramEnd::CountsTurns => 2,
             ProgramEnd::NamesSupervisor(_) | ProgramEnd::NotAGap(..) => 2,
             ProgramEnd::LogRefused(..) => 2,
@@ -185,6 +188,23 @@ pub fn tell<E: Output>(errors: &mut E, ending: ProgramEnd<'_>, why: Unwritten) -
     ending.status()
 }
 
+/// Tells which command explains an ending, where one does: a tree that is refused is explained by `check`.
+pub fn explain<E: Output>(errors: &mut E, name: &str, ending: ProgramEnd<'_>)
+    ensures first { (drawn : Bool) → TellsFirst drawn ending.entry (E.seen errors.old) (E.seen errors.new) }
+    ensures kept { (E.seen errors.old).failures ≤ (E.seen errors.new).failures }
+{
+    // Where nothing can be told, the ending alone says it.
+    match ending {
+        ProgramEnd::TreeRefused(_) => {
+            let _told = write_three(errors, b"tip: otp check ", name.as_bytes(), b" tells why\n");
+        }
+        ProgramEnd::LineRefused(_) => {
+            let _told = write_all(errors, b"tip: otp help lines says which lines there are\n");
+        }
+        _ => {}
+    }
+}
+
 /// Writes the line that tells of the ending, if there is one: where the output failed, with the reason, and none where nobody
 /// reads it any more.
 fn write_ending<E: Output>(
@@ -235,6 +255,10 @@ fn write_sentence<E: Output>(errors: &mut E, ending: ProgramEnd<'_>) -> Result<(
         ProgramEnd::FileAsCommand => write_all(
             errors,
             b"error: a file in the place of a command: say otp try FILE, or otp --help\n",
+        ),
+        ProgramEnd::RunsNoTrees => write_all(
+            errors,
+            b"error: this program runs no trees; ./otp run FILE compiles the one that does\n",
         ),
         ProgramEnd::TreeNotRead => write_all(errors, b"tree not read\n"),
         ProgramEnd::TreeRefused(fault) => {

@@ -5,7 +5,7 @@
 pub mod ending;
 pub mod files;
 
-pub use ending::{ProgramEnd, Unwritten, tell, write_numbered};
+pub use ending::{ProgramEnd, Unwritten, explain, tell, write_numbered};
 pub use files::{
     LARGEST_TREE, TreeFiles, Unread, read_file, read_log, read_run_file, read_small,
     read_tree_file, write_page, write_three,

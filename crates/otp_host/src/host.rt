@@ -1,10 +1,8 @@
 //! The program on the system that it is run on.
 
-use crate::screen::Screen;
 use otp_console::program::run;
+use otp_console::runner::TreeRunner;
 use otp_ending::{LARGEST_TREE, TreeFiles, Unwritten};
-use otp_live::LogLines;
-use otp_running::Pool;
 use otp_sim::Counted;
 use otp_words::words_of;
 use std::alloc::Global;
@@ -12,14 +10,11 @@ use std::env::VarError;
 use std::fs::File;
 use std::io::{ErrorKind, IsTerminal, Read, Write};
 use std::process::ExitCode;
-use std::sync::Wait;
 use std::sync::atomic::{AtomicU64, Ordering};
-use std::thread::Threads;
-use std::time::Clock;
 use std::{env, fs, io};
 
-/// Does what the words of the command line ask for. Trees are run with these threads, which `main` alone has.
-pub fn otp<H: Threads + Wait + Clock + Sync>(rt: &HostRuntime, threads: &H) -> ExitCode {
+/// Does what the words of the command line ask for. Trees are run by this runner.
+pub fn otp<T: TreeRunner>(rt: &HostRuntime, runner: &T) -> ExitCode {
     let mut input = Counted::new(rt.stdin());
     let system = System {
         rt,
@@ -30,14 +25,9 @@ pub fn otp<H: Threads + Wait + Clock + Sync>(rt: &HostRuntime, threads: &H) -> E
         why: &system.why,
     });
     let mut errors = Counted::new(rt.stderr());
-    let pool = Pool {
-        rt: threads,
-        alloc: rt.alloc(),
-        gate: &Screen::start(rt),
-        watch: &LogLines::to(rt, rt.alloc()),
-    };
     let status = run(
-        &pool,
+        rt.alloc(),
+        runner,
         words_of(rt),
         &system,
         &mut input,

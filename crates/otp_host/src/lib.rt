@@ -1,7 +1,7 @@
-//! The program `otp` on the system that it is run on: its files, its standard streams, its clock and its threads.
+//! The program on the system that it is run on: its files and its standard streams. What runs trees is `main`'s, which has the
+//! threads.
 #![tactic(auto)]
 
 mod host;
-mod screen;
 
 pub use host::otp;

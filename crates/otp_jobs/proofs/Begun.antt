@@ -15,7 +15,7 @@ use Rattle.otp_tree.specs.declared.whole.RunFault.{RunFault}
 use Rattle.otp_tree.specs.declared.whole.RunFault.TheVariants as run
 use Rattle.otp_jobs.specs.Runs.{IsNoneBare}
 use Rattle.otp_jobs.specs.Plans.{PlanView, plans_from, seen, supervisors_of}
-use Rattle.otp_jobs.specs.declared.role.Calm.{Calm}
+use Rattle.otp_jobs.specs.declared.body.Calm.{Calm}
 use Rattle.otp_jobs.specs.declared.worker.WorkedJob.{WorkedJob}
 
 abbrev supervisor_seen : Option PlanView → Option Supervisor

@@ -4,9 +4,10 @@ use Rattle.std.proofs.lemmas.List.{at_drop_more, map-append}
 use Rattle.otp_file.specs.Trees.{Table}
 use Rattle.otp_job.specs.declared.body.Body.{Body}
 use Rattle.otp_spec.specs.declared.child.ChildSpec.{ChildSpec}
-use Rattle.otp_jobs.specs.declared.role.Calm.{Calm}
+use Rattle.otp_jobs.specs.declared.body.Calm.{Calm}
 use Rattle.otp_jobs.specs.declared.worker.WorkedJob.{WorkedJob}
-use Rattle.otp_jobs.specs.Plans.{bodies_from, first_unknown, joined, or_else, total, tree_sizes, unknown_at, unknown_from}
+use Rattle.otp_roles.specs.Faults.{first_unknown, or_else, unknown_at, unknown_from}
+use Rattle.otp_jobs.specs.Plans.{bodies_from, joined, total, tree_sizes}
 
 -- neither of two is there where not one is
 pub neither : {A : Type 0} (a b : Option A) → or_else a b ≡ None → (a ≡ None) × (b ≡ None)

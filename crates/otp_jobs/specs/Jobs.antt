@@ -1,7 +1,5 @@
--- What the worked jobs do, and their words (own).
-use Rattle.std.specs.Prelude.{ℕ, Bool, true, false, codes, List, [], ◌∷◌, Option, Some, if◌then◌else◌}
-use Rattle.std.specs.Option.{option_map}
-use Rattle.std.specs.Str.{bytes_eq}
+-- What the worked jobs do (own).
+use Rattle.std.specs.Prelude.{Bool, true, false, codes}
 use Rattle.otp_bridge.specs.declared.bridge.BridgePhase.TheVariants.{New}
 use Rattle.otp_job.specs.declared.body.Body.{Body}
 use Rattle.otp_job.specs.declared.body.Body.TheVariants as body
@@ -12,33 +10,14 @@ use Rattle.otp_reason.specs.declared.note.Started.{Started}
 use Rattle.otp_reason.specs.declared.note.Started.TheVariants as started
 use Rattle.otp_reason.specs.declared.reason.Reason.{Reason}
 use Rattle.otp_reason.specs.declared.reason.Reason.TheVariants as reason
-use Rattle.otp_spec.specs.Words.{with_word}
-use Rattle.otp_jobs.specs.declared.role.Calm.{Calm}
-use Rattle.otp_jobs.specs.declared.role.Role.{Role}
-use Rattle.otp_jobs.specs.declared.role.Role.TheVariants as role
-use Rattle.otp_jobs.specs.declared.work.Work.{Work}
-use Rattle.otp_jobs.specs.declared.work.Work.TheVariants.{Steady, Once, Crash, CrashOnce, Ignore, Refuse, Stubborn}
+use Rattle.otp_jobs.specs.declared.body.Calm.{Calm}
+use Rattle.otp_roles.specs.declared.role.Role.{Role}
+use Rattle.otp_roles.specs.declared.role.Role.TheVariants as role
+use Rattle.otp_roles.specs.declared.work.Work.{Work}
+use Rattle.otp_roles.specs.declared.work.Work.TheVariants.{Steady, Once, Crash, CrashOnce, Ignore, Refuse, Stubborn}
 use Rattle.otp_jobs.specs.declared.worker.Life.{Life}
 use Rattle.otp_jobs.specs.declared.worker.Life.TheVariants.{Unstarted, First, Later}
 use Rattle.otp_jobs.specs.declared.worker.WorkedJob.{WorkedJob}
-
--- the word of a work, as the key `start` has it
-unfoldable pub work_word : Work → List ℕ
-work_word Steady = codes "steady"
-work_word Once = codes "once"
-work_word Crash = codes "crash"
-work_word CrashOnce = codes "crash_once"
-work_word Ignore = codes "ignore"
-work_word Refuse = codes "refuse"
-work_word Stubborn = codes "stubborn"
-
--- the work of a word, if it is the word of one
-unfoldable pub work_of : List ℕ → Option Work
-work_of = with_word work_word (Steady ∷ Once ∷ Crash ∷ CrashOnce ∷ Ignore ∷ Refuse ∷ Stubborn ∷ [])
-
--- what a word stands for: a bridge, or a job
-unfoldable pub role_of : List ℕ → Option Role
-role_of word = if bytes_eq word (codes "bridge") then Some role.Bridge else option_map role.Worker (work_of word)
 
 -- the reason of a crash
 abbrev pub crash : Reason

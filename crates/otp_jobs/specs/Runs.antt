@@ -1,5 +1,5 @@
 -- What comes of a run (own).
-use Rattle.std.specs.Prelude.{◌≡◌, ℕ, Bool, ◌-◌, ◌^◌, ◌<◌, ◌≤◌, ⊤, List, ◌++◌, length, map, min}
+use Rattle.std.specs.Prelude.{◌≡◌, ℕ, Bool, ◌-◌, ◌^◌, ◌<◌, ⊤, List, ◌++◌, length, map, min}
 use Rattle.otp_core.specs.View.{state_of}
 use Rattle.otp_rules.specs.Needs.{numbers_of}
 use Rattle.otp_report.specs.Reports.{last_reason}
@@ -14,27 +14,15 @@ use Rattle.otp_spec.specs.declared.limits.TheConstants.{MAX_TABLES}
 use Rattle.otp_tree.specs.declared.whole.CountedRun.{CountedRun}
 use Rattle.otp_tree.specs.declared.whole.RunFault.{RunFault}
 use Rattle.otp_tree.specs.declared.whole.RunFault.TheVariants as run
-use Rattle.otp_jobs.specs.declared.plan.PlanFault.{PlanFault}
-use Rattle.otp_jobs.specs.declared.plan.PlanFault.TheVariants as plan
+use Rattle.otp_roles.specs.declared.fault.PlanFault.{PlanFault}
+use Rattle.otp_roles.specs.declared.fault.PlanFault.TheVariants as plan
 use Rattle.otp_jobs.specs.Plans.{supervisors_of}
 use Rattle.otp_jobs.specs.Reports.{counts_text, report_text}
 use Rattle.otp_jobs.specs.declared.report.TableLine.{TableLine}
-use Rattle.otp_jobs.specs.declared.role.Calm.{Calm}
+use Rattle.otp_jobs.specs.declared.body.Calm.{Calm}
 use Rattle.otp_jobs.specs.declared.worker.WorkedJob.{WorkedJob}
 use Rattle.otp_jobs.specs.declared.run.FileRunFault.{FileRunFault}
 use Rattle.otp_jobs.specs.declared.run.FileRunFault.TheVariants.{OutOfMemory, UnknownStart, WrongBody, TooManyTables, Mismatch, Misplaced}
-use Rattle.otp_jobs.specs.declared.run.TheConstants.{MIN_SCHEDULERS, MAX_SCHEDULERS, MIN_TURNS, MAX_TURNS}
-
--- the limits of a run
-abbrev pub AreSettings : ℕ → ℕ → Type 0
-AreSettings schedulers turns =
-    (MIN_SCHEDULERS ≤ schedulers) × (schedulers ≤ MAX_SCHEDULERS) × (MIN_TURNS ≤ turns) × (turns ≤ MAX_TURNS)
-
-pub record SettingsView : Type 0 where
-  pub schedulers : ℕ
-  pub turns : ℕ
-  -- whether the report says what each supervisor counts before the stop
-  pub counted : Bool
 
 -- why a tree is not run that can't be planned
 abbrev pub run_fault : PlanFault → FileRunFault

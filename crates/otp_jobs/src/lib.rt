@@ -5,17 +5,14 @@
 //! alone, its start is ignored or fails, it can't be asked to end. `docs/FORMATS.md` has the words.
 #![tactic(auto)]
 
-mod flat;
+pub mod body;
 pub mod plan;
 pub mod report;
-pub mod role;
 pub mod run;
-pub mod work;
 pub mod worker;
 
-pub use plan::{PlanFault, WorkedPlan, plan_tree};
+pub use body::{Calm, WorkedBody, body_of};
+pub use plan::{WorkedPlan, plan_tree};
 pub use report::{TableLine, write_counts, write_report};
-pub use role::{Calm, Role, WorkedBody};
-pub use run::{FileRunFault, Settings, WorkedRun, fault_of, run_worked};
-pub use work::Work;
+pub use run::{FileRunFault, WorkedRun, fault_of, run_worked};
 pub use worker::{Life, WorkedJob};

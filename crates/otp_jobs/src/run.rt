@@ -1,23 +1,23 @@
 //! A tree of worked jobs is run.
-ghost use Rattle.std.specs.Prelude.{◌≡◌, ◌<◌, ◌≤◌, ◌++◌, false, Some, None, IfErr, IfOk, OnOk, length, map};
-ghost use Rattle.std.specs.Option.{SomeIff, option_map};
+ghost use Rattle.std.specs.Prelude.{◌≡◌, ◌++◌, Some, None, IfErr, IfOk, OnOk, length, map};
+ghost use Rattle.std.specs.Option.{option_map};
 ghost use Rattle.otp_file.specs.Trees.{tables_of};
-ghost use Rattle.otp_jobs.specs.Plans.{plan_fault};
-ghost use Rattle.otp_jobs.specs.Runs.{AreSettings, IsFaultOf, IsFaultOfOpening, IsNoneBare, IsNotPlanned, IsOfRun, IsRunOf, IsTooManyOnly, line_of, run_fault, run_text};
+ghost use Rattle.otp_roles.specs.Faults.{plan_fault};
+ghost use Rattle.otp_jobs.specs.Runs.{IsFaultOf, IsFaultOfOpening, IsNoneBare, IsNotPlanned, IsOfRun, IsRunOf, IsTooManyOnly, line_of, run_fault, run_text};
 ghost use Rattle.otp_open.specs.Plans.{IsNotBare};
 ghost use Rattle.otp_tree.specs.Closes.{IsRunNoneMissing};
 
-use crate::plan::{PlanFault, plan_tree};
+use crate::body::Calm;
+use crate::plan::plan_tree;
 use crate::report::{TableLine, write_counts, write_report};
-use crate::role::Calm;
 use crate::worker::WorkedJob;
 use otp_file::TreeSpec;
 use otp_reason::Name;
+use otp_roles::{PlanFault, Settings};
 use otp_tree::{
     CloseFault, CountedRun, Gate, RunFault, SystemFault, TableReport, Unopened, run_tree_counted,
 };
 use std::alloc::{AllocError, Global};
-use std::marker::Model;
 use std::sync::Wait;
 use std::thread::Threads;
 
@@ -98,91 +98,6 @@ pub fn fault_of<J: Drop, S: Drop>(why: RunFault<J, S>) -> FileRunFault
             drop(report);
             FileRunFault::Mismatch
         }
-    }
-}
-
-/// The fewest hands of a run.
-pub const MIN_SCHEDULERS: usize = 1;
-
-/// The most hands of a run.
-pub const MAX_SCHEDULERS: usize = 8;
-
-/// The fewest turns of a hand in each half of a run.
-pub const MIN_TURNS: u64 = 1;
-
-/// The most turns of a hand in each half of a run.
-pub const MAX_TURNS: u64 = 10_000_000;
-
-/// How a tree is run: with 1 to 8 hands, and 1 to 10,000,000 turns for each of them in each half of the run. And whether
-/// the report says what each supervisor counts halfway.
-#[derive(Debug, Drop)]
-pub struct Settings {
-    schedulers: usize,
-    turns: u64,
-    is_counted: bool,
-}
-
-impl Model for Settings {
-    ghost use Rattle.otp_jobs.specs.Runs.{AreSettings, SettingsView};
-
-    ghost Value = { SettingsView };
-
-    ghost view = { λ s. record { schedulers = s.schedulers; turns = s.turns; counted = s.is_counted } };
-
-    ghost invariant = { λ s. AreSettings s.schedulers s.turns };
-}
-
-impl Settings {
-    /// So many hands and turns, and no counts; None where they are out of the limits.
-    pub fn new(schedulers: usize, turns: u64) -> Option<Settings>
-        ensures { SomeIff result (AreSettings schedulers turns) (record { schedulers = schedulers; turns = turns; counted = false }) }
-    {
-        if !(MIN_SCHEDULERS..=MAX_SCHEDULERS).contains(&schedulers) {
-            return None;
-        }
-        if !(MIN_TURNS..=MAX_TURNS).contains(&turns) {
-            return None;
-        }
-        Some(Settings {
-            schedulers,
-            turns,
-            is_counted: false,
-        })
-    }
-
-    /// The same hands and turns, and counts where they are wanted.
-    pub fn with_counts(self, are_wanted: bool) -> Settings
-        ensures { result ≡ record self { counted = are_wanted } }
-    {
-        Settings {
-            schedulers: self.schedulers,
-            turns: self.turns,
-            is_counted: are_wanted,
-        }
-    }
-
-    /// How many hands there are, each with a scheduler and a thread of its own.
-    pub fn schedulers(&self) -> usize
-        ensures value { result ≡ self.now.schedulers }
-        ensures some { 0 < result }
-        ensures few { result ≤ 8 }
-    {
-        self.schedulers
-    }
-
-    /// How many turns each makes in each half of the run.
-    pub fn turns(&self) -> u64
-        ensures { result ≡ self.now.turns }
-    {
-        self.turns
-    }
-
-    /// Whether the report says first what each supervisor counts of its children, as it published that last before the
-    /// stop.
-    pub fn is_counted(&self) -> bool
-        ensures { result ≡ self.now.counted }
-    {
-        self.is_counted
     }
 }
 

@@ -4,9 +4,9 @@ ghost use Rattle.otp_reason.specs.Texts.{text_of};
 ghost use Rattle.otp_reason.specs.declared.reason.Reason.TheVariants as reason;
 ghost use Rattle.otp_jobs.specs.Jobs.{answer_of, crash, fresh_job, life_after, turn_of};
 
-use crate::work::Work;
 use otp_job::{Job, Told, Turn};
 use otp_reason::{Reason, Started, Text};
+use otp_roles::Work;
 
 /// How far a job has come in its starts.
 #[derive(Clone, Copy, Debug, PartialEq, Eq)]

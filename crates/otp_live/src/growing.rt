@@ -55,7 +55,7 @@ where
     requires places { tree.places ≤ MAX_TABLES }
     requires some { 0 < hands }
     requires few { hands ≤ all_parts }
-    // The report is one that `System::close` can give. It has each supervisor of the plans, and those that were added.
+    // The report is one that `close_tree` can give. It has each supervisor of the plans, and those that were added.
     ensures report { IfOk result (λ report. IsReportOf (length report.tables.items) report) }
     ensures count { IfOk result (λ report. HasTables (plans_of tree.plans.items) tree.places (length report.tables.items)) }
     // Each core began as the supervisor of the plan at its place in the list, never opened; one that was added as some supervisor.

@@ -7,7 +7,7 @@
 //!
 //! [`run`] returns once the root has ended: by itself (it gave up, or its last significant child ended), or because another thread
 //! raised the [`Stop`]. Then the tree was shut down in order, as OTP's `supervisor` does at the end of an application, and closed;
-//! the report is that of [`System::close`](otp_tree::System::close).
+//! the report is that of [`close_tree`](otp_tree::close_tree).
 //!
 //! [`run_for`] runs it for a time: then the stop is raised, and where the tree hasn't ended some time after that, the hands leave it
 //! ([`Span`]). The report says what is left.

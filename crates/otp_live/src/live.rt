@@ -58,7 +58,7 @@ where
     requires tables { length plans.items ≤ MAX_TABLES }
     requires some { 0 < hands }
     requires few { hands ≤ all_parts }
-    // The report has each supervisor of the plans, and is one that `System::close` can give.
+    // The report has each supervisor of the plans, and is one that `close_tree` can give.
     ensures report { IfOk result (IsReportOf (length plans.items)) }
     // Each core began as the supervisor of the plan at its place in the list, never opened.
     ensures plans { IfOk result (λ report. HaveBegun (plans_of plans.items) report.tables.items) }

@@ -21,7 +21,9 @@ use otp_job::{Body, Job};
 use otp_run::RunNaming;
 use otp_signals::WordsNaming;
 use otp_sup::PlanNaming;
-use otp_tree::{Client, Hand, MAX_HANDS, Opened, Parts, Report, RunFault, System, TablePlan};
+use otp_tree::{
+    Client, Hand, MAX_HANDS, Opened, Parts, Report, RunFault, System, TablePlan, finish_tree,
+};
 use std::alloc::Global;
 use std::marker::Brand;
 use std::sync::{Mutex, Wait};
@@ -106,7 +108,7 @@ where
     } = all;
     drop(passes);
     let client = serve_locked::<N, Brand, R, J, S, W>(rt, crew, &system, &mut hands, client);
-    match system.finish(rt, alloc, hands, client) {
+    match finish_tree(rt, alloc, system, hands, client) {
         Ok(report) => Ok(report),
         Err(fault) => Err(RunFault::Close(fault)),
     }

@@ -1,9 +1,20 @@
 //! The program `otp`.
 #![tactic(auto)]
 
+mod screen;
+
 use otp_host::otp;
+use otp_live::LogLines;
+use otp_running::Pool;
+use screen::Screen;
 use std::process::ExitCode;
 
 fn main(rt: HostRuntime) -> ExitCode {
-    otp(&rt, &rt)
+    let pool = Pool {
+        rt: &rt,
+        alloc: rt.alloc(),
+        gate: &Screen::start(&rt),
+        watch: &LogLines::to(&rt, rt.alloc()),
+    };
+    otp(&rt, &pool)
 }

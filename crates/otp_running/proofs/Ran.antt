@@ -3,8 +3,8 @@ use Rattle.std.proofs.Common.{◌≡◌, ℕ, ◌⊎◌, Bool, true, false, inl,
 use Rattle.std.specs.Prelude.{⊤}
 use Rattle.otp_file.specs.Files.{Says}
 use Rattle.otp_file.specs.Trees.{Tree, tables_of}
-use Rattle.otp_jobs.specs.Plans.{plan_fault}
-use Rattle.otp_jobs.specs.declared.role.Calm.{Calm}
+use Rattle.otp_roles.specs.Faults.{plan_fault}
+use Rattle.otp_jobs.specs.declared.body.Calm.{Calm}
 use Rattle.otp_jobs.specs.declared.worker.WorkedJob.{WorkedJob}
 use Rattle.otp_sim.specs.Devices.{Written}
 use Rattle.otp_serve.specs.declared.patient.PatientJob.{PatientJob}

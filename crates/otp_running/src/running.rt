@@ -9,11 +9,11 @@ ghost use Rattle.otp_ending.specs.Told.{IsTold, TellsFirst};
 ghost use Rattle.otp_running.specs.Running.{IsEndOfRun, IsSaid, IsTreeRun, ending_of_run};
 
 use crate::standing::draw_standing;
-use otp_ending::{ProgramEnd, write_three};
+use otp_console::runner::RunAs;
+use otp_ending::{ProgramEnd, explain};
 use otp_file::{TreeFault, TreeSpec, read_tree};
-use otp_jobs::{FileRunFault, Settings, run_worked};
-use otp_objects::write_run_object;
-use otp_outcome::{Limit, write_awaited, write_lives};
+use otp_jobs::{FileRunFault, run_worked};
+use otp_outcome::{Limit, write_awaited, write_lives, write_run_object};
 use otp_sim::{Failed, Output, write_all};
 use otp_starts::find_unfit;
 use otp_text::write_number;
@@ -34,13 +34,6 @@ pub struct Pool<'a, H, G, L> {
     pub gate: &'a G,
     /// Who is told what happens to each process of a tree that is served for a time.
     pub watch: &'a L,
-}
-
-/// How a tree is run, and what is told of it.
-#[derive(Drop)]
-pub struct RunAs {
-    pub settings: Settings,
-    pub shows: RunShows,
 }
 
 /// The tree that a file says, which has 64 supervisors at most.
@@ -142,23 +135,6 @@ pub(crate) fn ending_of_live<'a>(live: u64) -> ProgramEnd<'a>
         ProgramEnd::Done
     } else {
         ProgramEnd::NotFinished
-    }
-}
-
-/// Tells which command explains an ending, where one does: a tree that is refused is explained by `check`.
-pub fn explain<E: Output>(errors: &mut E, name: &str, ending: ProgramEnd<'_>)
-    ensures first { (drawn : Bool) → TellsFirst drawn ending.entry (E.seen errors.old) (E.seen errors.new) }
-    ensures kept { (E.seen errors.old).failures ≤ (E.seen errors.new).failures }
-{
-    // Where nothing can be told, the ending alone says it.
-    match ending {
-        ProgramEnd::TreeRefused(_) => {
-            let _told = write_three(errors, b"tip: otp check ", name.as_bytes(), b" tells why\n");
-        }
-        ProgramEnd::LineRefused(_) => {
-            let _told = write_all(errors, b"tip: otp help lines says which lines there are\n");
-        }
-        _ => {}
     }
 }
 

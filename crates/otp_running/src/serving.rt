@@ -4,23 +4,26 @@ ghost use Rattle.std.specs.Prelude.{◌≡◌, ◌≤◌, ◌||◌, ◌++◌, So
 ghost use Rattle.std.specs.Option.{option_map};
 ghost use Rattle.otp_ending.specs.Told.{TellsFirst};
 ghost use Rattle.otp_file.specs.Trees.{tables_of};
-ghost use Rattle.otp_jobs.specs.Plans.{plan_fault, supervisors_of};
+ghost use Rattle.otp_roles.specs.Faults.{plan_fault};
+ghost use Rattle.otp_jobs.specs.Plans.{supervisors_of};
 ghost use Rattle.otp_jobs.specs.Runs.{IsOfRun, IsTooManyOnly, run_fault};
 ghost use Rattle.otp_running.specs.Running.{IsTreeServed};
 ghost use Rattle.otp_serve.specs.Serves.{served_text};
 ghost use Rattle.otp_close.specs.Closes.{HaveBegun, IsReportOf};
 
-use crate::running::{Pool, ending_of_live, explain, refuse_run, remarks_on, say, tree_of};
+use crate::running::{Pool, ending_of_live, refuse_run, remarks_on, say, tree_of};
 use crate::watching::AtPaths;
-use otp_ending::ProgramEnd;
+use otp_console::runner::ServeAs;
+use otp_ending::{ProgramEnd, explain};
 use otp_file::TreeSpec;
-use otp_jobs::{FileRunFault, Settings};
+use otp_jobs::FileRunFault;
 use otp_live::{Span, Unwatched, Watch};
 use otp_outcome::Limit;
+use otp_roles::Settings;
 use otp_serve::{PatientReport, serve_worked};
 use otp_sim::{Failed, Output, write_all};
 use otp_trial::plant_seats;
-use otp_words::{RunShows, Serving};
+use otp_words::Serving;
 use std::alloc::Global;
 use std::sync::Wait;
 use std::thread::Threads;
@@ -68,14 +71,6 @@ where
     let served = serve_worked(pool.rt, alloc, tree, settings, span, &watch, out);
     drop(seats);
     served
-}
-
-/// How a tree is served, for how long, and what is told of it.
-#[derive(Drop)]
-pub struct ServeAs {
-    pub settings: Settings,
-    pub serving: Serving,
-    pub shows: RunShows,
 }
 
 /// Reads the tree of a file, serves it with worked jobs for a time, and writes the report. What is told besides changes nothing of

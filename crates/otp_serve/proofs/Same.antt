@@ -2,7 +2,7 @@
 use Rattle.std.proofs.Common.{Some, None, ◌≡◌, ℕ, zero, suc, ◌≤◌, List, [], ◌∷◌, Option, arith, length, map, refl, sym, ap, ◌∙◌, subst}
 use Rattle.std.proofs.lemmas.List.{length-map}
 use Rattle.std.specs.Prelude.{slice_get}
-use Rattle.otp_jobs.specs.declared.role.Calm.{Calm}
+use Rattle.otp_jobs.specs.declared.body.Calm.{Calm}
 use Rattle.otp_jobs.specs.declared.worker.WorkedJob.{WorkedJob}
 use Rattle.otp_open.specs.Plans.{HaveBodies, Suffice, plans_of}
 use Rattle.otp_open.specs.declared.plan.TablePlan.{TablePlan}

@@ -4,7 +4,7 @@ use Rattle.otp_job.specs.declared.body.Body.{Body}
 use Rattle.otp_job.specs.declared.body.Body.TheVariants as body
 use Rattle.otp_job.specs.declared.job.Turn.{Turn}
 use Rattle.otp_job.specs.declared.job.Turn.TheVariants.{Again, Wait}
-use Rattle.otp_jobs.specs.declared.role.Calm.{Calm}
+use Rattle.otp_jobs.specs.declared.body.Calm.{Calm}
 use Rattle.otp_jobs.specs.declared.worker.WorkedJob.{WorkedJob}
 use Rattle.otp_serve.specs.declared.patient.PatientJob.{PatientJob}
 use Rattle.otp_spec.specs.declared.child.ChildSpec.{ChildSpec}

@@ -2,7 +2,7 @@
 use Rattle.std.specs.Prelude.{ℕ, List, map}
 use Rattle.otp_jobs.specs.Reports.{report_text}
 use Rattle.otp_jobs.specs.Runs.{line_of}
-use Rattle.otp_jobs.specs.declared.role.Calm.{Calm}
+use Rattle.otp_jobs.specs.declared.body.Calm.{Calm}
 use Rattle.otp_serve.specs.declared.patient.PatientJob.{PatientJob}
 use Rattle.otp_report.specs.declared.report.Report.{Report}
 

@@ -1,6 +1,6 @@
 -- What is found of a tree that is refused for its starts.
 use Rattle.std.proofs.Common.{◌≡◌, ℕ, List, [], ◌∷◌, refl}
-use Rattle.otp_jobs.specs.declared.plan.PlanFault.{PlanFault}
+use Rattle.otp_roles.specs.declared.fault.PlanFault.{PlanFault}
 use Rattle.otp_starts.specs.Unfit.{FindsUnfit, HasStarts}
 use Rattle.otp_starts.specs.declared.finding.StartFinding.{StartFinding}
 

@@ -2,8 +2,8 @@
 use Rattle.std.specs.Prelude.{◌≡◌, ℕ, List, [], ◌∷◌, Some, None, Ok}
 use Rattle.otp_file.specs.Files.{Says}
 use Rattle.otp_file.specs.Trees.{Tree, tables_of}
-use Rattle.otp_jobs.specs.Plans.{plan_fault}
-use Rattle.otp_jobs.specs.declared.plan.PlanFault.{PlanFault}
+use Rattle.otp_roles.specs.Faults.{plan_fault}
+use Rattle.otp_roles.specs.declared.fault.PlanFault.{PlanFault}
 use Rattle.otp_starts.specs.declared.finding.StartFinding.{StartFinding}
 
 -- the file says a tree each of whose starts stands for a job that fits

@@ -2,7 +2,7 @@
 
 use otp_check::{Remark, write_child};
 use otp_hints::nearest;
-use otp_jobs::{Role, Work};
+use otp_roles::{Role, Work};
 use otp_spec::{ChildSpec, ChildType};
 use otp_text::write_name;
 use std::alloc::{AllocError, Global};

@@ -1,7 +1,7 @@
 //! Which children of a tree file can't be run by the words of their starts, and what to write: what `run` would refuse, found
 //! without a run.
 //!
-//! Whether there is such a child is decided by `plan_tree`, as for a run.
+//! Whether there is such a child is decided by `runnable_tables` of `otp_roles`, as for a run.
 #![tactic(auto)]
 
 mod finding;

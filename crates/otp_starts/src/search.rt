@@ -6,8 +6,8 @@ ghost use Rattle.otp_starts.specs.Unfit.{FindsUnfit};
 use crate::finding::{StartFinding, text_of, why_unfit};
 use otp_check::write_child;
 use otp_file::{ChildKey, FlagKey, MAX_DEPTH, TreeSpec, read_tree};
-use otp_jobs::{PlanFault, plan_tree};
 use otp_picture::tree_at;
+use otp_roles::{PlanFault, runnable_tables};
 use otp_source::{Part, Source};
 use otp_spec::ChildSpec;
 use std::alloc::{AllocError, Global};
@@ -159,9 +159,9 @@ pub fn find_unfit(alloc: Global, file: &[u8]) -> Result<Vec<StartFinding>, Alloc
     let Ok(tree) = read_tree(alloc, file) else {
         return Err(AllocError);
     };
-    match plan_tree(alloc, tree) {
-        Ok(plans) => {
-            drop(plans);
+    match runnable_tables(alloc, tree) {
+        Ok(tables) => {
+            drop(tables);
             Ok(Vec::new(alloc))
         }
         Err(PlanFault::UnknownStart(_) | PlanFault::WrongBody) => refused_in(alloc, file),

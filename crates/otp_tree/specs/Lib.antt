@@ -1,6 +1,2 @@
 pub mod Closes
-pub mod Hearings
-pub mod Happenings
-pub mod Servings
-pub mod Callings
 pub mod Adds

@@ -5,12 +5,12 @@ ghost use Rattle.otp_open.specs.Adds.{AreNear, AreWithin, Fit};
 ghost use Rattle.otp_open.specs.Plans.{HaveBodies};
 ghost use Rattle.otp_tree.specs.Adds.{IsAddFault, IsGivenBack, IsOccupiedOnly};
 
-use crate::growth::Growth;
-use crate::system::System;
+use otp_hand::Shared;
 use otp_job::{Body, TableNo};
 use otp_open::{TablePlan, are_unused, find_lacking, find_stranger, make_spaces, plan_all};
 use otp_spec::MAX_TABLES;
 use otp_sup::{Bodies, SupNaming};
+use otp_system::{Growth, System};
 use std::alloc::Global;
 use std::sync::Wait;
 
@@ -37,92 +37,89 @@ pub struct Unadded<J: Drop, S: Drop> {
     pub plans: Vec<TablePlan<J, S>>,
 }
 
-impl<N: SupNaming, J: Drop, S: Drop> System<N, J, S> {
-    /// Adds supervisors to the running tree: the first is the top of a tree of its own, each stands before those below its own
-    /// children, and the body of a child that is a supervisor is its place among them, from 0 on, as where a tree is opened.
-    ///
-    /// They run once the top is somebody's child: the answer is its number, as the body of a start call
-    /// ([`System::submit`]). Until then they can be called, and take the calls up when they run. All threads may add at
-    /// once; each call gets numbers of its own, in their order.
-    ///
-    /// # Errors
-    ///
-    /// See [`AddFault`]. No supervisor was added, and the plans come back. At [`AddFault::Occupied`] alone some may have
-    /// been added, and the plans may be gone.
-    pub fn add_tree<R: Wait>(
-        &self,
-        rt: &R,
-        alloc: Global,
-        plans: Vec<TablePlan<J, S>>,
-    ) -> Result<TableNo, Unadded<J, S>>
-        requires { 0 < length plans.items }
-        ensures there { IfOk result (λ top. top < self.now.tables) }
-        ensures bodies { OnOk result (HaveBodies plans.items) }
-        ensures within { OnOk result (AreWithin plans.items) }
-        ensures fault { IfErr result (λ back. IsAddFault plans.items back.fault) }
-        ensures back { IfErr result (IsGivenBack plans.items) }
-        // A place is said to be occupied only where a table that keeps the rules had an event, or isn't in its place.
-        ensures occupied { IfErr result (λ back. IsOccupiedOnly N.plan back.fault) }
-    {
-        if plans.len() > MAX_TABLES {
-            return Err(not_added(AddFault::TooManyTables, plans));
-        }
-        if let Some(table) = find_lacking(plans.as_slice()) {
-            return Err(not_added(AddFault::NoBody { table }, plans));
-        }
-        if let Some(table) = find_stranger(plans.as_slice()) {
-            return Err(not_added(AddFault::WrongBody { table }, plans));
-        }
-        let Ok(spaces) = make_spaces(alloc, plans.as_slice()) else {
-            return Err(not_added(AddFault::OutOfMemory, plans));
-        };
-        let Some(growth) = &self.growth else {
-            drop(spaces);
-            return Err(not_added(AddFault::TooManyTables, plans));
-        };
-        self.add_ready(rt, alloc, growth, plans, spaces)
+/// Adds supervisors to the running tree: the first is the top of a tree of its own, each stands before those below its own
+/// children, and the body of a child that is a supervisor is its place among them, from 0 on, as where a tree is opened.
+///
+/// They run once the top is somebody's child: the answer is its number, as the body of a start call
+/// ([`System::submit`]). Until then they can be called, and take the calls up when they run. All threads may add at
+/// once; each call gets numbers of its own, in their order.
+///
+/// # Errors
+///
+/// See [`AddFault`]. No supervisor was added, and the plans come back. At [`AddFault::Occupied`] alone some may have
+/// been added, and the plans may be gone.
+pub fn add_tree<N: SupNaming, J: Drop, S: Drop, R: Wait>(
+    rt: &R,
+    alloc: Global,
+    system: &System<N, J, S>,
+    plans: Vec<TablePlan<J, S>>,
+) -> Result<TableNo, Unadded<J, S>>
+    requires { 0 < length plans.items }
+    ensures there { IfOk result (λ top. top < system.now.tables) }
+    ensures bodies { OnOk result (HaveBodies plans.items) }
+    ensures within { OnOk result (AreWithin plans.items) }
+    ensures fault { IfErr result (λ back. IsAddFault plans.items back.fault) }
+    ensures back { IfErr result (IsGivenBack plans.items) }
+    // A place is said to be occupied only where a table that keeps the rules had an event, or isn't in its place.
+    ensures occupied { IfErr result (λ back. IsOccupiedOnly N.plan back.fault) }
+{
+    if plans.len() > MAX_TABLES {
+        return Err(not_added(AddFault::TooManyTables, plans));
     }
+    if let Some(table) = find_lacking(plans.as_slice()) {
+        return Err(not_added(AddFault::NoBody { table }, plans));
+    }
+    if let Some(table) = find_stranger(plans.as_slice()) {
+        return Err(not_added(AddFault::WrongBody { table }, plans));
+    }
+    let Ok(spaces) = make_spaces(alloc, plans.as_slice()) else {
+        return Err(not_added(AddFault::OutOfMemory, plans));
+    };
+    let Some(growth) = system.growth() else {
+        drop(spaces);
+        return Err(not_added(AddFault::TooManyTables, plans));
+    };
+    add_ready(rt, alloc, system.shared(), growth, plans, spaces)
+}
 
-    /// Gives them places, under the one lock. It is noted that they are there before any is moved, so that a refusal leaves all as it
-    /// was; nobody knows their numbers until the answer.
-    fn add_ready<R: Wait>(
-        &self,
-        rt: &R,
-        alloc: Global,
-        growth: &Growth<N>,
-        plans: Vec<TablePlan<J, S>>,
-        spaces: Vec<Bodies<Body<J, S>>>,
-    ) -> Result<TableNo, Unadded<J, S>>
-        requires some { 0 < length plans.items }
-        requires bodies { HaveBodies plans.items }
-        requires near { AreNear plans.items }
-        requires fit { Fit plans.items spaces.items }
-        ensures there { IfOk result (λ top. top < self.now.tables) }
-        ensures fault { IfErr result (λ back. IsAddFault plans.items back.fault) }
-        ensures back { IfErr result (IsGivenBack plans.items) }
-        ensures occupied { IfErr result (λ back. IsOccupiedOnly N.plan back.fault) }
-    {
-        let mut guard = growth.desk.lock(rt);
-        let desk = &mut *guard;
-        let count = plans.len();
-        let Some(first) = desk.first_for(count, self.shared.tables().min(MAX_TABLES)) else {
-            drop(spaces);
-            return Err(not_added(AddFault::TooManyTables, plans));
-        };
-        if !are_unused(rt, &self.shared, first, count) {
-            drop(spaces);
-            return Err(not_added(AddFault::Occupied, plans));
-        }
-        if let Err(_) = growth.note(rt, first, count) {
-            drop(spaces);
-            return Err(not_added(AddFault::OutOfMemory, plans));
-        }
-        desk.take(count);
-        if plan_all(rt, alloc, &self.shared, first, plans, spaces) {
-            Ok(TableNo::new(first))
-        } else {
-            Err(not_added(AddFault::Occupied, Vec::new(alloc)))
-        }
+/// Gives them places, under the one lock. It is noted that they are there before any is moved, so that a refusal leaves all as it
+/// was; nobody knows their numbers until the answer.
+fn add_ready<N: SupNaming, J: Drop, S: Drop, R: Wait>(
+    rt: &R,
+    alloc: Global,
+    shared: &Shared<N, J, S>,
+    growth: &Growth<N>,
+    plans: Vec<TablePlan<J, S>>,
+    spaces: Vec<Bodies<Body<J, S>>>,
+) -> Result<TableNo, Unadded<J, S>>
+    requires some { 0 < length plans.items }
+    requires bodies { HaveBodies plans.items }
+    requires near { AreNear plans.items }
+    requires fit { Fit plans.items spaces.items }
+    ensures there { IfOk result (λ top. top < shared.now.tables) }
+    ensures fault { IfErr result (λ back. IsAddFault plans.items back.fault) }
+    ensures back { IfErr result (IsGivenBack plans.items) }
+    ensures occupied { IfErr result (λ back. IsOccupiedOnly N.plan back.fault) }
+{
+    let mut guard = growth.desk().lock(rt);
+    let desk = &mut *guard;
+    let count = plans.len();
+    let Some(first) = desk.first_for(count, shared.tables().min(MAX_TABLES)) else {
+        drop(spaces);
+        return Err(not_added(AddFault::TooManyTables, plans));
+    };
+    if !are_unused(rt, shared, first, count) {
+        drop(spaces);
+        return Err(not_added(AddFault::Occupied, plans));
+    }
+    if let Err(_) = growth.take(rt, desk, count) {
+        drop(spaces);
+        return Err(not_added(AddFault::OutOfMemory, plans));
+    }
+    if plan_all(rt, alloc, shared, first, plans, spaces) {
+        Ok(TableNo::new(first))
+    } else {
+        Err(not_added(AddFault::Occupied, Vec::new(alloc)))
     }
 }
 

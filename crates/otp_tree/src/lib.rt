@@ -56,9 +56,9 @@
 //! that belongs to one tree bears one name, `N`, in its type, so that nothing of it can be mixed up with another's, and the
 //! library picks the name; that is why a session is a trait with one generic method. In it [`System::serve`] gives a hand
 //! turns, [`System::root_note`] is the next thing that the root tells, [`System::submit`] calls a supervisor and
-//! [`System::reply`] has its answer, [`System::stop`] asks the root to shut down, and [`System::close`] takes the tree apart
+//! [`System::reply`] has its answer, [`System::stop`] asks the root to shut down, and [`close_tree`] takes the tree apart
 //! and reports.
-//! Where the tree is opened by [`with_growing_system`] a session can add supervisors to it ([`System::add_tree`]), and then start the
+//! Where the tree is opened by [`with_growing_system`] a session can add supervisors to it ([`add_tree`]), and then start the
 //! first of them as somebody's child.
 //! `crates/otp_uses/src/tree.rt` has a whole session, with its job and its plan. The prover doesn't cover a call of
 //! [`pool_run`] in a trait's method yet, so a session serves hand by hand.
@@ -68,35 +68,22 @@
 #![tactic(auto)]
 
 pub mod adding;
-pub mod calling;
-pub mod clock;
 pub mod closing;
-mod finding;
-mod growth;
-pub mod happening;
-pub mod listener;
-mod meeting;
 pub mod opening;
-pub mod pool;
 pub mod rounds;
-pub mod serving;
 pub mod session;
-pub mod system;
 pub mod whole;
 
-pub use adding::{AddFault, Unadded};
-pub use calling::{CallRefusal, NoTable, Uncalled};
-pub use clock::{Gate, Millis};
-pub use closing::Unclosed;
-pub use happening::Happening;
-pub use listener::Listener;
+pub use adding::{AddFault, Unadded, add_tree};
+pub use closing::{Unclosed, close_tree, finish_tree};
 pub use opening::{Opened, Parts};
 pub use otp_close::CloseFault;
 pub use otp_hand::{Client, Hand, Senders, TreeNaming};
 pub use otp_open::{SystemFault, TableDraft, TablePlan, Unopened, Unplanned};
 pub use otp_report::{Mismatch, Report, TableReport};
-pub use pool::{MAX_HANDS, pool_run};
+pub use otp_system::{
+    CallRefusal, Gate, Happening, Listener, MAX_HANDS, Millis, NoTable, System, Uncalled, pool_run,
+};
 pub use rounds::{CallEnd, CallId, CallRequest, Leader, Led, Round, lead};
 pub use session::{Session, with_growing_system, with_system};
-pub use system::System;
 pub use whole::{CountedRun, RunFault, run_tree, run_tree_counted};

@@ -12,8 +12,6 @@ ghost use Rattle.otp_open.specs.Passes.{CanRead};
 ghost use Rattle.otp_open.specs.Plans.{ArePlanned, HaveBodies, IsOpenFault};
 ghost use Rattle.otp_open.specs.Readies.{AreReadyFor};
 
-use crate::growth::Growth;
-use crate::system::System;
 use otp_counts::CountsPass;
 use otp_hand::{Client, Hand, ROOT_NUMBER, ROOT_SLOT, TreeNaming};
 use otp_inbox::UnnamedInbox;
@@ -24,7 +22,8 @@ use otp_open::{
 };
 use otp_run::RunQueue;
 use otp_signals::OpenWords;
-use otp_sup::{Letter, Message, Sup};
+use otp_sup::{Letter, Message, Sup, SupNaming};
+use otp_system::{Growth, System};
 use std::alloc::{AllocError, Global};
 
 /// The parts of a tree, without a name.
@@ -260,17 +259,14 @@ impl<J: Drop, S: Drop> Parts<J, S> {
             passes,
         } = ready;
         Ok(Opened {
-            system: System {
-                shared: site.open(alloc, plans, sups),
-                growth: None,
-            },
+            system: System::of_parts(site.open(alloc, plans, sups), None),
             hands,
             client,
             passes,
         })
     }
 
-    /// The same, where so many supervisors are there at first, and others can be added ([`System::add_tree`]).
+    /// The same, where so many supervisors are there at first, and others can be added ([`add_tree`](crate::add_tree)).
     pub fn named_growing<N: TreeNaming>(
         self,
         alloc: Global,
@@ -308,7 +304,7 @@ impl<J: Drop, S: Drop> Parts<J, S> {
                     passes,
                 } = all;
                 Ok(Opened {
-                    system: system.growing(growth),
+                    system: growing(system, growth),
                     hands,
                     client,
                     passes,
@@ -320,4 +316,16 @@ impl<J: Drop, S: Drop> Parts<J, S> {
             }
         }
     }
+}
+
+/// The same tree, to which supervisors can be added.
+fn growing<N: SupNaming, J: Drop, S: Drop>(
+    system: System<N, J, S>,
+    growth: Growth<N>,
+) -> System<N, J, S>
+    ensures { result ≡ system }
+{
+    let (shared, none) = system.into_parts();
+    drop(none);
+    System::of_parts(shared, Some(growth))
 }

@@ -8,11 +8,8 @@ ghost use Rattle.otp_hand.specs.Standings.{reach_of, standings};
 ghost use Rattle.otp_open.specs.Opens.{slots_of};
 ghost use Rattle.otp_open.specs.Plans.{HaveBodies, IsOpenFault, plans_of};
 
-use crate::calling::Uncalled;
-use crate::clock::Gate;
+use crate::closing::finish_tree;
 use crate::opening::{Opened, Parts};
-use crate::pool::pool_all;
-use crate::system::System;
 use otp_bridge::Subsystem;
 use otp_close::CloseFault;
 use otp_core::ReplyAnswer;
@@ -26,6 +23,7 @@ use otp_rules::{Call, Reply};
 use otp_run::RunNaming;
 use otp_signals::WordsNaming;
 use otp_sup::{PlanNaming, SupNaming};
+use otp_system::{Gate, System, Uncalled, pool_run};
 use std::alloc::Global;
 use std::marker::Brand;
 use std::sync::Wait;
@@ -104,8 +102,8 @@ pub struct Led<J: Drop, S: Drop, L: Leader<J, S>> {
 }
 
 /// Opens a tree of 1 to 64 supervisors, the root first, for 1 to 8 hands, and serves it with each hand in a thread of its
-/// own ([`pool_run`](crate::pool_run)), round by round as the leader says: at most so many rounds. Then the tree is closed
-/// ([`System::close`]). The leader comes back, with the report.
+/// own ([`pool_run`]), round by round as the leader says: at most so many rounds. Then the tree is closed
+/// ([`close_tree`](crate::close_tree)). The leader comes back, with the report.
 ///
 /// A round ends when each hand has made its turns. The gate is asked before each turn of a hand, in the hand's own thread, and
 /// told where there was nothing to do for any.
@@ -214,7 +212,7 @@ where
             break;
         }
     }
-    let report = system.finish(rt, alloc, hands, client);
+    let report = finish_tree(rt, alloc, system, hands, client);
     Ok(Led { leader, report })
 }
 
@@ -267,6 +265,26 @@ where
         Round::Leave => return false,
     }
     true
+}
+
+/// Each hand makes so many turns, in a thread of its own. The whole list is lent: of one that was lent as a slice in the midst of a
+/// function the prover knows nothing after.
+pub(crate) fn pool_all<N, J, S, R, G>(
+    rt: &R,
+    system: &System<N, J, S>,
+    hands: &mut Vec<Hand<N, J, S>>,
+    gate: &G,
+    turns: u64,
+)
+where
+    N: TreeNaming + Send + Sync,
+    J: Job + Send,
+    S: Subsystem + Send,
+    R: Threads + Wait + Sync,
+    G: Gate + Sync,
+    ensures { standings hands.new.items ≡ standings hands.old.items }
+{
+    pool_run(rt, system, hands, gate, turns);
 }
 
 /// What became of a call so far.

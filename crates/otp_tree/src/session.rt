@@ -7,7 +7,6 @@ ghost use Rattle.otp_open.specs.Opens.{slots_of};
 ghost use Rattle.otp_open.specs.Plans.{ArePlanned, HaveBodies, IsOpenFault};
 
 use crate::opening::{Opened, Parts};
-use crate::system::System;
 use otp_hand::{Client, Hand, TreeNaming};
 use otp_inbox::InboxNaming;
 use otp_job::Body;
@@ -15,6 +14,7 @@ use otp_open::{TablePlan, Unopened, with_spares, without_spares};
 use otp_run::RunNaming;
 use otp_signals::WordsNaming;
 use otp_sup::PlanNaming;
+use otp_system::System;
 use std::alloc::Global;
 use std::marker::Brand;
 
@@ -104,7 +104,7 @@ fn run_named<
 }
 
 /// Opens a tree for 1 to 8 hands that has places for so many supervisors, 1 to 64, and runs a session with it. The first have those of
-/// the plans, the root first; to the others supervisors can be added while it runs ([`System::add_tree`]).
+/// the plans, the root first; to the others supervisors can be added while it runs ([`add_tree`](crate::add_tree)).
 ///
 /// Each place has an inbox, a way to it in each hand and client, 256 signal words, and a word for its counts from the opening on.
 ///

@@ -9,10 +9,9 @@ ghost use Rattle.otp_hand.specs.Standings.{reach_of, standings};
 ghost use Rattle.otp_open.specs.Opens.{slots_of};
 ghost use Rattle.otp_open.specs.Plans.{HaveBodies, plans_of};
 
-use crate::clock::Gate;
+use crate::closing::finish_tree;
 use crate::opening::{Opened, Parts};
-use crate::pool::pool_all;
-use crate::system::System;
+use crate::rounds::pool_all;
 use otp_bridge::Subsystem;
 use otp_close::CloseFault;
 use otp_counts::CountsPass;
@@ -26,6 +25,7 @@ use otp_rules::CountsNow;
 use otp_run::RunNaming;
 use otp_signals::WordsNaming;
 use otp_sup::PlanNaming;
+use otp_system::{Gate, System};
 use std::alloc::Global;
 use std::marker::Brand;
 use std::sync::Wait;
@@ -181,7 +181,7 @@ where
     requires few { hands ≤ all_parts }
     // The counts of each supervisor of the plans.
     ensures counts { IfOk result (λ run. length run.counts.items ≡ length plans.items) }
-    // The report has each supervisor of the plans, and is one that `System::close` can give.
+    // The report has each supervisor of the plans, and is one that `close_tree` can give.
     ensures report { IfOk result (λ run. IsReportOf (length plans.items) run.report) }
     // Each core began as the supervisor of the plan at its place in the list, never opened.
     ensures plans { IfOk result (λ run. HaveBegun (plans_of plans.items) run.report.tables.items) }
@@ -257,7 +257,7 @@ where
         &mut counts,
     );
     drop(passes);
-    match system.finish(rt, alloc, hands, client) {
+    match finish_tree(rt, alloc, system, hands, client) {
         Ok(report) => Ok(CountedRun { counts, report }),
         Err(fault) => {
             drop(counts);

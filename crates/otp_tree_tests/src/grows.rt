@@ -12,7 +12,8 @@ use otp_reason::{Name, Reason};
 use otp_rules::{Call, Reply};
 use otp_spec::{ChildSpec, ChildType, MAX_TABLES, Shutdown};
 use otp_tree::{
-    AddFault, CallRefusal, Client, Hand, NoTable, Session, System, Uncalled, with_growing_system,
+    AddFault, CallRefusal, Client, Hand, NoTable, Session, System, Uncalled, add_tree, close_tree,
+    with_growing_system,
 };
 use std::alloc::Global;
 use std::process::Abort;
@@ -48,7 +49,7 @@ fn add<N: TreeNaming, R: Wait + Abort>(
     let top = got(
         rt,
         "no supervisor was added",
-        system.add_tree(rt, alloc, plans),
+        add_tree(rt, alloc, system, plans),
     );
     same(rt, "its number", top.number(), number);
     top
@@ -156,7 +157,7 @@ impl<R: Wait + Abort> Session<R, Worker, BoxedSubsystem> for Starting {
         got(
             rt,
             "all parts are here",
-            system.close(rt, alloc, hands, client),
+            close_tree(rt, alloc, system, hands, client),
         )
     }
 }
@@ -232,7 +233,7 @@ impl<R: Wait + Abort> Session<R, Worker, BoxedSubsystem> for Filling {
         got(
             rt,
             "all parts are here",
-            system.close(rt, alloc, hands, client),
+            close_tree(rt, alloc, system, hands, client),
         )
     }
 }
@@ -246,7 +247,7 @@ fn too_many<N: TreeNaming, R: Wait + Abort>(
 ) {
     let plans = childless(rt, alloc, shared);
     assert!(rt; !plans.is_empty());
-    match system.add_tree(rt, alloc, plans) {
+    match add_tree(rt, alloc, system, plans) {
         Ok(_) => panic!(rt; "there is no place left"),
         Err(back) => {
             same(
@@ -299,7 +300,7 @@ fn add_many<N: TreeNaming, R: Wait + Abort>(
         let top = got(
             rt,
             "no supervisor was added",
-            system.add_tree(rt, alloc, plans),
+            add_tree(rt, alloc, system, plans),
         );
         got(rt, MEMORY, numbers.push(top.number()));
         drop(top);
@@ -356,7 +357,7 @@ impl<R: Wait + Abort> Session<R, Worker, BoxedSubsystem> for Sharing {
         got(
             rt,
             "all parts are here",
-            system.close(rt, alloc, hands, client),
+            close_tree(rt, alloc, system, hands, client),
         )
     }
 }

@@ -10,8 +10,8 @@ use otp_job::Body;
 use otp_reason::{Note, Reason};
 use otp_rules::CountsNow;
 use otp_tree::{
-    Client, CloseFault, Hand, Session, System, TreeNaming, Unclosed, with_growing_system,
-    with_system,
+    Client, CloseFault, Hand, Session, System, TreeNaming, Unclosed, close_tree,
+    with_growing_system, with_system,
 };
 use std::alloc::Global;
 use std::process::Abort;
@@ -142,7 +142,7 @@ fn close_without<N: TreeNaming, R: Wait + Abort>(
     hands: Vec<Serving<N>>,
     client: Caller<N>,
 ) -> Unclosed<N, Worker, BoxedSubsystem> {
-    let back = match system.close(rt, alloc, hands, client) {
+    let back = match close_tree(rt, alloc, system, hands, client) {
         Err(CloseFault::Missing(back) | CloseFault::OutOfMemory(back)) => back,
         _ => panic!(rt; "a hand is away"),
     };
@@ -175,7 +175,7 @@ fn close_once<N: TreeNaming, R: Wait>(
         hands,
         client,
     } = back;
-    system.close(rt, alloc, hands, client)
+    close_tree(rt, alloc, system, hands, client)
 }
 
 // The whole life of the tree, closed first without one of its hands. Where memory is refused at its opening the plans come back.

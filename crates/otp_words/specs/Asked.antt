@@ -11,7 +11,7 @@ use Rattle.otp_trial.specs.declared.clock.Clock.{Clock}
 use Rattle.otp_trial.specs.declared.clock.Clock.TheVariants.{Milliseconds, Seconds}
 use Rattle.otp_try.specs.declared.play.Writer.{Writer}
 use Rattle.otp_try.specs.declared.play.Writer.TheVariants.{Script, Person}
-use Rattle.otp_jobs.specs.Runs.{SettingsView}
+use Rattle.otp_roles.specs.Settings.{SettingsView}
 use Rattle.otp_suggest.specs.Times.{time_in}
 use Rattle.otp_words.specs.declared.words.Command.{Command}
 use Rattle.otp_words.specs.declared.words.Command.TheVariants as command

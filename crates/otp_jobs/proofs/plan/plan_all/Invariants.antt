@@ -1,6 +1,7 @@
 use Rattle.std.proofs.Common.{◌≡◌, ◌+◌, ◌++◌, List, map, length, None}
 use Rattle.otp_file.specs.Trees.{Table}
-use Rattle.otp_jobs.specs.Plans.{first_unknown, plans_from, seen, table_seen, tree_sizes}
+use Rattle.otp_roles.specs.Faults.{first_unknown, table_seen}
+use Rattle.otp_jobs.specs.Plans.{plans_from, seen, tree_sizes}
 use Rattle.otp_jobs.proofs.plan.plan_all.Given as goal
 
 -- the plans and sizes are those of the tables that were taken, which stood behind those that are left

@@ -1,7 +1,7 @@
 use denote.Param.Send.{sendable}
 use Rattle.std.proofs.Common.{ap, sym, ◌∙◌}
 use Rattle.otp_hand.specs.Standings.{standing_of}
-use Rattle.otp_tree.proofs.Alike.{alike}
+use Rattle.otp_system.proofs.Alike.{alike}
 use Rattle.otp_live.proofs.served.serve_each.Goals as goal
 
 pub for_each_mut-requires-clause-accepts : goal.for_each_mut-requires-clause-accepts

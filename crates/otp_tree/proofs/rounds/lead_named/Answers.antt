@@ -16,7 +16,7 @@ returns-clause-report g c =
     let plans = g.N.PlanNaming.plan in
     let tables = (c.in-Ok.ensures {u = tt}).tables in
     let all = subst (λ n. AreAllPlanned plans n) (c.requires.as_many ∙ sym tables) (all_planned plans c.args.parts.plans.items c.requires.plans) in
-    subst (λ n. IfOk c.finish-report.result (IsReportOf n)) tables (c.finish-report.ensures.report all)
+    subst (λ n. IfOk c.finish_tree-report.result (IsReportOf n)) tables (c.finish_tree-report.ensures.report all)
 
 pub returns-clause-missing : goal.returns-clause-missing
 returns-clause-missing g c =
@@ -24,4 +24,4 @@ returns-clause-missing g c =
     let whole = (c.in-Ok.ensures {u = tt}).complete c.requires.some in
     let stands : standings c.loop-test.hands.items ≡ standings opened.hands.items = elim c.loop-test.branch [ else-loop-test w ↦ ap (λ h. standings h.items) w.hands-is ∙ c.loop.invariant.0 | then-loop-test+then-not-make_round w ↦ ap (λ h. standings h.items) w.hands-is ∙ (w.if-not-make_round.ensures {u = tt}).hands ∙ c.loop.invariant.0 ] in
     let reaches : reach_of c.loop-test.client ≡ reach_of opened.client = elim c.loop-test.branch [ else-loop-test w ↦ ap reach_of w.client-is ∙ c.loop.invariant.1 | then-loop-test+then-not-make_round w ↦ ap reach_of w.client-is ∙ (w.if-not-make_round.ensures {u = tt}).client ∙ w.root_note.ensures.reach ∙ c.loop.invariant.1 ] in
-    c.finish-report.ensures.missing (complete_kept opened.system opened.hands.items c.loop-test.hands.items opened.client c.loop-test.client stands reaches whole)
+    c.finish_tree-report.ensures.missing (complete_kept opened.system opened.hands.items c.loop-test.hands.items opened.client c.loop-test.client stands reaches whole)

@@ -1,0 +1,4 @@
+pub mod Hearings
+pub mod Happenings
+pub mod Servings
+pub mod Callings

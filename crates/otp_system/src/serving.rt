@@ -1,0 +1,210 @@
+//! How a hand serves a tree: a turn at a time.
+ghost use Rattle.std.specs.Prelude.{◌≤◌, ◌≡◌, IsTrue, None, Some};
+ghost use Rattle.otp_spec.specs.declared.limits.TheConstants.{MAX_READING};
+ghost use Rattle.otp_system.specs.Servings.{SentOrKept};
+ghost use Rattle.otp_hand.specs.Standings.{standing_of};
+
+use crate::clock::Millis;
+use crate::happening::happening_of;
+use crate::listener::{Listener, Nobody};
+use crate::system::System;
+use otp_bridge::Subsystem;
+use otp_hand::places::put_into;
+use otp_hand::{Hand, Unsent};
+use otp_job::{Body, Job, Ticket};
+use otp_reason::Note;
+use otp_run::RunNaming;
+use otp_signals::Signal;
+use otp_sup::{Letter, SupNaming, TurnAnswer};
+use std::sync::Wait;
+
+impl<N: SupNaming, J: Job, S: Subsystem> System<N, J, S> {
+    /// Gives a hand so many turns, in the thread that calls.
+    ///
+    /// A turn first sends a note that was refused before. Then it takes the process that the hand has out, or one that waited and
+    /// was told something, or the next of the run queue: a worker's or a bridge's has one turn ([`otp_job::one_turn`]), a supervisor's one too
+    /// ([`otp_sup::Sup::turn`]). Where there is no process, the turn does nothing.
+    pub fn serve<R: Wait, M: Millis>(
+        &self,
+        rt: &R,
+        hand: &mut Hand<N, J, S>,
+        clock: &mut M,
+        turns: u64,
+    )
+    where
+        N: RunNaming,
+        // It reads no counts.
+        ensures passes { hand.new.passes ≡ hand.old.passes }
+        // The hand keeps its place among all hands, and its parts of the right to send.
+        ensures standing { standing_of hand.new ≡ standing_of hand.old }
+    {
+        for _ in 0..turns {
+            let reading = clock.now();
+            self.turn(rt, hand, reading);
+        }
+    }
+
+    /// One turn of a hand, at this reading of the clock in milliseconds. False where it found nothing to do.
+    pub fn turn<R: Wait>(&self, rt: &R, hand: &mut Hand<N, J, S>, reading: u64) -> bool
+    where
+        N: RunNaming,
+        requires { reading ≤ MAX_READING }
+        ensures passes { hand.new.passes ≡ hand.old.passes }
+        ensures standing { standing_of hand.new ≡ standing_of hand.old }
+    {
+        self.turn_heard(rt, hand, reading, &Nobody)
+    }
+
+    /// The same, of which a listener is told.
+    pub fn turn_heard<R: Wait, L: Listener>(
+        &self,
+        rt: &R,
+        hand: &mut Hand<N, J, S>,
+        reading: u64,
+        listener: &L,
+    ) -> bool
+    where
+        N: RunNaming,
+        requires { reading ≤ MAX_READING }
+        ensures passes { hand.new.passes ≡ hand.old.passes }
+        ensures standing { standing_of hand.new ≡ standing_of hand.old }
+    {
+        if !self.send_unsent(rt, hand, listener) || !self.find(hand, reading) {
+            return false;
+        }
+        let parent = hand.runner.parent();
+        match hand.runner.nested() {
+            Some((table, number)) => {
+                let told = hand.runner.look(&self.shared.words);
+                self.supervise(rt, hand, table, number, reading, told, parent, listener);
+            }
+            None => {
+                let before = hand.runner.waiting.len();
+                hand.runner.work_as_told(&self.shared.words, reading);
+                tell_of_wait(listener, parent, before, hand.runner.waiting.len());
+            }
+        }
+        if self.send_unsent(rt, hand, listener) {
+            hand.runner.hand_back();
+        }
+        true
+    }
+
+    /// Looks for something to do, for letters, signals and deadlines of **all** that wait in this hand, and in the run queue as a
+    /// turn does. True where the hand's next turn has something to do; false where there was nothing for each that waits at one
+    /// moment of the call.
+    pub fn look_at_all(&self, hand: &mut Hand<N, J, S>, reading: u64) -> bool
+    where
+        N: RunNaming,
+        ensures passes { hand.new.passes ≡ hand.old.passes }
+        ensures standing { standing_of hand.new ≡ standing_of hand.old }
+    {
+        if hand.runner.unsent.is_some() {
+            return true;
+        }
+        hand.runner.look_at_all();
+        self.find(hand, reading)
+    }
+
+    /// A turn of this supervisor, whose process a hand has out. Where it finds nothing to do, the process waits from then on, until
+    /// the least deadline of its children at most.
+    fn supervise<R: Wait, L: Listener>(
+        &self,
+        rt: &R,
+        hand: &mut Hand<N, J, S>,
+        table: usize,
+        number: u64,
+        reading: u64,
+        told: Signal,
+        parent: usize,
+        listener: &L,
+    )
+    where
+        N: RunNaming,
+        requires { reading ≤ MAX_READING }
+        ensures passes { hand.new.passes ≡ hand.old.passes }
+        ensures standing { standing_of hand.new ≡ standing_of hand.old }
+    {
+        let Some(sup) = self.sup(table) else {
+            return;
+        };
+        let answer = hand.turn_nested(rt, &self.shared.words, sup, number, reading, told);
+        if answer == Ok(TurnAnswer::Quiet) {
+            let due = sup.next_deadline(rt);
+            hand.runner.rest(table, told, due);
+            listener.rests(table, parent);
+            return;
+        }
+        listener.served(table);
+        let posted = hand.runner.around.take_posted();
+        hand.runner.waiting.notice_posted(posted);
+    }
+
+    /// Sends the letter that a hand still has to send. False where it was refused again.
+    fn send_unsent<R: Wait, L: Listener>(
+        &self,
+        rt: &R,
+        hand: &mut Hand<N, J, S>,
+        listener: &L,
+    ) -> bool
+    where
+        N: RunNaming,
+        ensures sent { IsTrue result → hand.new.unsent ≡ None }
+        // It is the letter that the hand had kept, to the supervisor for which it was kept; a refused one stays as it is.
+        ensures letter { SentOrKept result self.now.tables hand.old.unsent hand.old hand.new }
+        ensures passes { hand.new.passes ≡ hand.old.passes }
+        ensures standing { standing_of hand.new ≡ standing_of hand.old }
+    {
+        let Some(
+            Unsent {
+                ticket,
+                letter,
+                note,
+            },
+        ) = hand.runner.unsent.take()
+        else {
+            return true;
+        };
+        let inbox = self.shared.inbox_of(ticket.table);
+        if inbox.number() >= hand.senders.len() {
+            keep_unsent(&mut hand.runner.unsent, ticket, letter, note);
+            return false;
+        }
+        let what = happening_of(note, letter.end(), ticket.again);
+        match hand.senders.send(rt, inbox, letter) {
+            Ok(()) => {
+                hand.runner.resting.call(ticket.table);
+                listener.sent(&ticket, what);
+                true
+            }
+            Err(letter) => {
+                keep_unsent(&mut hand.runner.unsent, ticket, letter, note);
+                false
+            }
+        }
+    }
+}
+
+/// Keeps a letter that was refused.
+fn keep_unsent<J: Drop, S: Drop>(
+    place: &mut Option<Unsent<J, S>>,
+    ticket: Ticket,
+    letter: Letter<Body<J, S>>,
+    note: Note,
+)
+    ensures { place.new ≡ Some (record { ticket = ticket; letter = letter; note = note }) }
+{
+    let unsent = Unsent {
+        ticket,
+        letter,
+        note,
+    };
+    put_into(place, Some(unsent));
+}
+
+/// Tells that a job waits, where more wait than before.
+fn tell_of_wait<L: Listener>(listener: &L, parent: usize, before: usize, now: usize) {
+    if before < now {
+        listener.waits(parent);
+    }
+}
