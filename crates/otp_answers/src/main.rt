@@ -2,12 +2,21 @@
 //! is there sooner where a program is compiled for one question (`./otp`).
 #![tactic(auto)]
 
-mod answering;
-
-use answering::NoRunner;
-use otp_host::otp;
+use otp_console::program::run;
+use otp_host::System;
+use otp_sim::Counted;
+use otp_words::words_of;
 use std::process::ExitCode;
 
 fn main(rt: HostRuntime) -> ExitCode {
-    otp(&rt, &NoRunner)
+    let system = System::new(&rt);
+    let status = run(
+        rt.alloc(),
+        words_of(&rt),
+        &system,
+        &mut Counted::new(rt.stdin()),
+        &mut system.output(),
+        &mut Counted::new(rt.stderr()),
+    );
+    ExitCode::from(status)
 }

@@ -14,7 +14,7 @@ use Rattle.otp_roles.specs.declared.fault.PlanFault.{PlanFault}
 use Rattle.otp_starts.specs.Unfit.{HasStarts, IsRunnable}
 use Rattle.otp_ending.specs.Devices.{Files, HasTree, IsUnread}
 use Rattle.otp_ending.specs.Statuses.{status_of}
-use Rattle.otp_ending.specs.Told.{IsSmall, IsUnreadEnd, Tells, TellsFirst, goes_on, worse}
+use Rattle.otp_ending.specs.Told.{IsSmall, Tells, TellsFirst, goes_on, worse}
 use Rattle.otp_ending.specs.declared.ending.Unwritten.{Unwritten}
 use Rattle.otp_ending.specs.declared.ending.ProgramEnd.{ProgramEnd}
 use Rattle.otp_ending.specs.declared.ending.ProgramEnd.TheVariants.{Done, WordsRefused, NoCommand, WordNotText, FileAsCommand, TreeNotRead, FileNotRead, TreeRefused, FaultsFound, LineRefused, HistoryFull, InputFailed, OutputFailed, OutOfMemory, UnknownClock, NotATime, NeedsFor, CountsTurns}
@@ -104,27 +104,15 @@ ChecksFirst {T} starts Holds names ending old new =
 abbrev pub ChecksAll : {T : Type 0} → Bool → (T → List ℕ → Type 0) → List T → ProgramEnd → Written → Written → Type 0
 ChecksAll starts Holds names ending old new = ChecksEach starts Holds names Done ending old new ⊎ ChecksFirst starts Holds names ending old new
 
--- a run of the tree of a file whose bytes are known to be so: it can't be read, or it was run
-abbrev pub RunsTree : TreeRuns → (List ℕ → Type 0) → Bool → List ℕ → Bool → ProgramEnd → Written → Written → Type 0
-RunsTree trees Holds is_json name counted ending old new =
-    (IsUnreadEnd ending × (new ≡ old))
-    ⊎ ((file : List ℕ) × (Holds file × trees.by_turns is_json name counted ending file old new))
-
--- the tree of such a file was served for a time
-abbrev pub ServesTree : TreeRuns → (List ℕ → Type 0) → Bool → List ℕ → ProgramEnd → Written → Written → Type 0
-ServesTree trees Holds is_json name ending old new =
-    (IsUnreadEnd ending × (new ≡ old))
-    ⊎ ((file : List ℕ) × (Holds file × trees.for_a_time is_json name ending file old new))
-
 -- what a command asks for was done
 abbrev pub Does : Files → TreeRuns → Command → ProgramEnd → Devices → Devices → Type 0
 Does known trees (command.Sim file) ending old new = Simulates (known.holds file.now) ending old new
 Does known trees (command.Check files checking) ending old new =
     IsUnread old new × ChecksAll checking.has_starts (λ name. known.holds name.now) files.items ending old.output new.output
 Does known trees (command.Run file settings shows) ending old new =
-    IsUnread old new × RunsTree trees (known.holds file.now) shows.is_json file.now settings.counted ending old.output new.output
+    IsUnread old new × trees.by_turns (known.holds file.now) shows.is_json file.now settings.counted ending old.output new.output
 Does known trees (command.Serve file settings serving shows) ending old new =
-    IsUnread old new × ServesTree trees (known.holds file.now) shows.is_json file.now ending old.output new.output
+    IsUnread old new × trees.for_a_time (known.holds file.now) shows.is_json file.now ending old.output new.output
 Does known trees (command.Use file usage) ending old new = Uses known file.now usage ending old new
 
 -- a picture of the tree that is run is told besides, or why its supervisors ended, where the command asks for it

@@ -1,10 +1,18 @@
--- What comes of the runs of trees that the program asks for (own).
-use Rattle.std.specs.Prelude.{ℕ, Bool, List}
+-- What comes of the runs of trees that a program is asked for (own).
+use Rattle.std.specs.Prelude.{◌≡◌, ℕ, Bool, List}
 use Rattle.otp_sim.specs.Devices.{Written}
 use Rattle.otp_ending.specs.declared.ending.ProgramEnd.{ProgramEnd}
+use Rattle.otp_ending.specs.declared.ending.ProgramEnd.TheVariants.{RunsNoTrees}
 
--- what is known of runs: whether an object is written, the name of the file, for a run by turns whether counts are written, how
--- the program ends, the bytes of the file, and what was written before and after
+-- what a program does with a tree: what is known of the bytes of its file, whether an object is written, the name of the file, for a
+-- run by turns whether counts are written, how the program ends, and what was written before and after
 pub record TreeRuns : Type 1 where
-  pub by_turns : Bool → List ℕ → Bool → ProgramEnd → List ℕ → Written → Written → Type 0
-  pub for_a_time : Bool → List ℕ → ProgramEnd → List ℕ → Written → Written → Type 0
+  pub by_turns : (List ℕ → Type 0) → Bool → List ℕ → Bool → ProgramEnd → Written → Written → Type 0
+  pub for_a_time : (List ℕ → Type 0) → Bool → List ℕ → ProgramEnd → Written → Written → Type 0
+
+-- a program that runs none ends so, and writes nothing
+abbrev pub no_trees : TreeRuns
+no_trees = record {
+  by_turns = λ Holds is_json name counted ending old new. (ending ≡ RunsNoTrees) × (new ≡ old);
+  for_a_time = λ Holds is_json name ending old new. (ending ≡ RunsNoTrees) × (new ≡ old);
+}

@@ -1,6 +1,6 @@
 //! The program, as a function of its words, its files, its input and two writers: `sim FILE` reads a tree file and then lines
-//! of standard input, and prints the orders of its supervisor; `check FILE` says what is wrong in the file. What runs trees is
-//! handed in: `otp_running` has it. Questions about a tree are in `otp_questions`.
+//! of standard input, and prints the orders of its supervisor; `check FILE` says what is wrong in the file. It runs no tree:
+//! `otp_running` has it with `run`. Questions about a tree are in `otp_questions`.
 #![tactic(auto)]
 
 pub mod checking;
@@ -8,5 +8,4 @@ pub mod console;
 mod objects;
 mod pages;
 pub mod program;
-pub mod runner;
 mod using;

@@ -1,8 +1,10 @@
-//! The program but for the system under it: what it does for which words, and what it tells on which stream.
+//! The program but for the system under it, and but for trees that run: what it does for which words, and what it tells on which
+//! stream.
 
-ghost use Rattle.std.specs.Prelude.{◌≡◌, ◌≤◌, ◌⊎◌, ◌||◌, false};
+ghost use Rattle.std.specs.Prelude.{◌≡◌, ◌≤◌, ◌⊎◌, false};
 ghost use Rattle.otp_sim.specs.Devices.{Readable, devices};
-ghost use Rattle.otp_console.specs.Runs.{Answers, Checks, ChecksAll, Does, IsObeyed, IsProgramRun, RunsTree, ServesTree, Simulates, draws};
+ghost use Rattle.otp_console.specs.Runs.{Answers, Checks, ChecksAll, Does, IsObeyed, IsProgramRun, Simulates, draws};
+ghost use Rattle.otp_console.specs.Trees.{no_trees};
 ghost use Rattle.otp_ending.specs.Told.{TellsFirst};
 ghost use Rattle.otp_ending.specs.declared.ending.ProgramEnd.TheVariants as end;
 ghost use Rattle.otp_console.specs.Words.{EndsFor};
@@ -10,21 +12,19 @@ ghost use Rattle.otp_words.specs.declared.words.WordsFault.TheVariants.{Clap};
 
 use crate::checking::{check_file, write_unread};
 use crate::console::console;
-use crate::runner::{RunAs, ServeAs, TreeRunner};
 use crate::using::use_named;
 use clap::Error;
-use otp_ending::{ProgramEnd, TreeFiles, Unread, explain, read_run_file, read_small, tell};
+use otp_ending::{ProgramEnd, TreeFiles, Unread, explain, read_small, tell};
 use otp_sim::{Failed, Input, Output, write_all};
 use otp_words::{Checking, Command, WordsFault, read_words};
 use std::alloc::Global;
 
 /// Does what the words of the command line ask for, and gives the exit status.
 ///
-/// Orders and help are written to `output`. Why the program ends, if not well, is told on `errors`, and nothing else is. What
-/// is done with a tree that is run is the runner's.
-pub fn run<T, F, R, W, E>(
+/// Orders and help are written to `output`. Why the program ends, if not well, is told on `errors`, and nothing else is. No tree is
+/// run: the program ends, and says so.
+pub fn run<F, R, W, E>(
     alloc: Global,
-    runner: &T,
     words: Result<Vec<String>, WordsFault>,
     files: &F,
     input: &mut R,
@@ -32,23 +32,21 @@ pub fn run<T, F, R, W, E>(
     errors: &mut E,
 ) -> u8
 where
-    T: TreeRunner,
     F: TreeFiles,
     R: Input,
     W: Output,
     E: Output,
-    ensures { IsProgramRun (F.known files.now) T.runs result
+    ensures { IsProgramRun (F.known files.now) no_trees result
         (devices (R.seen input.old) (W.seen output.old))
         (devices (R.seen input.new) (W.seen output.new)) (E.seen errors.old) (E.seen errors.new) }
 {
-    let ending = obey(alloc, runner, &words, files, input, output, errors);
+    let ending = obey(alloc, &words, files, input, output, errors);
     tell(errors, ending, files.unwritten())
 }
 
 /// Does what the words ask for, the program's own name first, or answers them.
-fn obey<'a, T, F, R, W, E>(
+fn obey<'a, F, R, W, E>(
     alloc: Global,
-    runner: &T,
     words: &'a Result<Vec<String>, WordsFault>,
     files: &F,
     input: &mut R,
@@ -56,12 +54,11 @@ fn obey<'a, T, F, R, W, E>(
     errors: &mut E,
 ) -> ProgramEnd<'a>
 where
-    T: TreeRunner,
     F: TreeFiles,
     R: Input,
     W: Output,
     E: Output,
-    ensures obeyed { IsObeyed (F.known files.now) T.runs result
+    ensures obeyed { IsObeyed (F.known files.now) no_trees result
         (devices (R.seen input.old) (W.seen output.old))
         (devices (R.seen input.new) (W.seen output.new)) (E.seen errors.old) (E.seen errors.new) }
     ensures kept { (E.seen errors.old).failures ≤ (E.seen errors.new).failures }
@@ -71,15 +68,14 @@ where
         Err(fault) => return answer(alloc, fault, output, errors),
     };
     match read_words(alloc, words) {
-        Ok(command) => do_command(alloc, runner, command, files, input, output, errors),
+        Ok(command) => do_command(alloc, command, files, input, output, errors),
         Err(fault) => answer(alloc, &fault, output, errors),
     }
 }
 
-/// Does what a command asks for.
-pub fn do_command<'a, T, F, R, W, E>(
+/// Does what a command asks for, where it asks for no tree that runs.
+pub fn do_command<'a, F, R, W, E>(
     alloc: Global,
-    runner: &T,
     command: Command<'a>,
     files: &F,
     input: &mut R,
@@ -87,12 +83,11 @@ pub fn do_command<'a, T, F, R, W, E>(
     errors: &mut E,
 ) -> ProgramEnd<'a>
 where
-    T: TreeRunner,
     F: TreeFiles,
     R: Input,
     W: Output,
     E: Output,
-    ensures done { Does (F.known files.now) T.runs command.entry result
+    ensures done { Does (F.known files.now) no_trees command.entry result
         (devices (R.seen input.old) (W.seen output.old))
         (devices (R.seen input.new) (W.seen output.new)) }
     ensures first { TellsFirst (draws command.entry) result (E.seen errors.old) (E.seen errors.new) }
@@ -104,27 +99,7 @@ where
             files: names,
             checking,
         } => check_all(alloc, files, names.as_slice(), checking, output),
-        Command::Run {
-            file,
-            settings,
-            shows,
-        } => {
-            let how = RunAs { settings, shows };
-            run_named(runner, files, file, how, output, errors)
-        },
-        Command::Serve {
-            file,
-            settings,
-            serving,
-            shows,
-        } => {
-            let how = ServeAs {
-                settings,
-                serving,
-                shows,
-            };
-            serve_named(runner, files, file, how, output, errors)
-        }
+        Command::Run { .. } | Command::Serve { .. } => ProgramEnd::RunsNoTrees,
         Command::Use { file, usage } => use_named(alloc, files, file, usage, input, output, errors),
     }
 }
@@ -151,56 +126,6 @@ fn simulate<'a, F: TreeFiles, R: Input, W: Output, E: Output>(
             ending
         }
         Err(error) => ProgramEnd::of_file(&error),
-    }
-}
-
-/// Runs the tree of a file by turns.
-fn run_named<'a, T, F, W, E>(
-    runner: &T,
-    files: &F,
-    name: &'a str,
-    how: RunAs,
-    output: &mut W,
-    errors: &mut E,
-) -> ProgramEnd<'a>
-where
-    T: TreeRunner,
-    F: TreeFiles,
-    W: Output,
-    E: Output,
-    ensures done { RunsTree T.runs ((F.known files.now).holds name.now) how.shows.is_json name.now
-        how.settings.counted result (W.seen output.old) (W.seen output.new) }
-    ensures first { TellsFirst (how.shows.is_drawn || how.shows.is_why) result (E.seen errors.old) (E.seen errors.new) }
-    ensures kept { (E.seen errors.old).failures ≤ (E.seen errors.new).failures }
-{
-    match read_run_file(files, name, errors) {
-        Ok(file) => runner.run_tree(name, &file, how, output, errors),
-        Err(ending) => ending,
-    }
-}
-
-/// Serves the tree of a file for a time.
-fn serve_named<'a, T, F, W, E>(
-    runner: &T,
-    files: &F,
-    name: &'a str,
-    how: ServeAs,
-    output: &mut W,
-    errors: &mut E,
-) -> ProgramEnd<'a>
-where
-    T: TreeRunner,
-    F: TreeFiles,
-    W: Output,
-    E: Output,
-    ensures done { ServesTree T.runs ((F.known files.now).holds name.now) how.shows.is_json name.now result
-        (W.seen output.old) (W.seen output.new) }
-    ensures first { TellsFirst (how.shows.is_drawn || how.shows.is_why) result (E.seen errors.old) (E.seen errors.new) }
-    ensures kept { (E.seen errors.old).failures ≤ (E.seen errors.new).failures }
-{
-    match read_run_file(files, name, errors) {
-        Ok(file) => runner.serve_tree(name, &file, how, output, errors),
-        Err(ending) => ending,
     }
 }
 
@@ -245,7 +170,7 @@ fn check_named<'a, F: TreeFiles, W: Output>(
 }
 
 /// Answers words that ask for nothing that is done: they are refused, or ask for help.
-fn answer<'a, W: Output, E: Output>(
+pub fn answer<'a, W: Output, E: Output>(
     alloc: Global,
     fault: &WordsFault,
     output: &mut W,

@@ -1,41 +1,13 @@
-//! The program on the system that it is run on.
+//! The system that the program is run on.
 
-use otp_console::program::run;
-use otp_console::runner::TreeRunner;
 use otp_ending::{LARGEST_TREE, TreeFiles, Unwritten};
 use otp_sim::Counted;
-use otp_words::words_of;
 use std::alloc::Global;
 use std::env::VarError;
 use std::fs::File;
-use std::io::{ErrorKind, IsTerminal, Read, Write};
-use std::process::ExitCode;
+use std::io::{ErrorKind, IsTerminal, Read, Stdout, Write};
 use std::sync::atomic::{AtomicU64, Ordering};
 use std::{env, fs, io};
-
-/// Does what the words of the command line ask for. Trees are run by this runner.
-pub fn otp<T: TreeRunner>(rt: &HostRuntime, runner: &T) -> ExitCode {
-    let mut input = Counted::new(rt.stdin());
-    let system = System {
-        rt,
-        why: AtomicU64::new(WRITTEN),
-    };
-    let mut output = Counted::new(Noting {
-        device: rt.stdout(),
-        why: &system.why,
-    });
-    let mut errors = Counted::new(rt.stderr());
-    let status = run(
-        rt.alloc(),
-        runner,
-        words_of(rt),
-        &system,
-        &mut input,
-        &mut output,
-        &mut errors,
-    );
-    ExitCode::from(status)
-}
 
 /// Whether a variable of the environment says nothing. One that can't be read may say something.
 fn is_unset(variable: Result<String, VarError>) -> bool {
@@ -77,7 +49,7 @@ const OTHER: u64 = 3;
 
 /// A writer that notes why it last failed.
 #[derive(Drop)]
-struct Noting<'a, W> {
+pub struct Noting<'a, W> {
     device: W,
     why: &'a AtomicU64,
 }
@@ -111,9 +83,27 @@ impl<W: Write> Write for Noting<'_, W> {
 
 /// The system that the program runs on, and why a write to standard output last failed.
 #[derive(Drop)]
-struct System<'a> {
+pub struct System<'a> {
     rt: &'a HostRuntime,
     why: AtomicU64,
+}
+
+impl<'a> System<'a> {
+    /// The system as it is before anything is written.
+    pub fn new(rt: &'a HostRuntime) -> Self {
+        System {
+            rt,
+            why: AtomicU64::new(WRITTEN),
+        }
+    }
+
+    /// Standard output, of which it is noted why a write last failed.
+    pub fn output(&self) -> Counted<Noting<'_, Stdout>> {
+        Counted::new(Noting {
+            device: self.rt.stdout(),
+            why: &self.why,
+        })
+    }
 }
 
 /// The files of the system, of which nothing is known beforehand.

@@ -1,7 +1,6 @@
-//! The program on the system that it is run on: its files and its standard streams. What runs trees is `main`'s, which has the
-//! threads.
+//! The system that the program is run on: its files and its standard output. The threads are `main`'s.
 #![tactic(auto)]
 
 mod host;
 
-pub use host::otp;
+pub use host::{Noting, System};

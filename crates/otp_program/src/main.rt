@@ -3,9 +3,11 @@
 
 mod screen;
 
-use otp_host::otp;
+use otp_host::System;
 use otp_live::LogLines;
-use otp_running::Pool;
+use otp_running::{Pool, run_with};
+use otp_sim::Counted;
+use otp_words::words_of;
 use screen::Screen;
 use std::process::ExitCode;
 
@@ -16,5 +18,14 @@ fn main(rt: HostRuntime) -> ExitCode {
         gate: &Screen::start(&rt),
         watch: &LogLines::to(&rt, rt.alloc()),
     };
-    otp(&rt, &pool)
+    let system = System::new(&rt);
+    let status = run_with(
+        &pool,
+        words_of(&rt),
+        &system,
+        &mut Counted::new(rt.stdin()),
+        &mut system.output(),
+        &mut Counted::new(rt.stderr()),
+    );
+    ExitCode::from(status)
 }

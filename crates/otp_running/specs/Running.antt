@@ -22,7 +22,9 @@ use Rattle.otp_report.specs.declared.report.TableReport.{TableReport}
 use Rattle.otp_tree.specs.declared.whole.CountedRun.{CountedRun}
 use Rattle.otp_roles.specs.declared.fault.PlanFault.TheVariants as plan
 use Rattle.otp_check.specs.Checks.{IsFirstFault}
+use Rattle.otp_console.specs.Trees.{TreeRuns}
 use Rattle.otp_ending.specs.Devices.{HasTree}
+use Rattle.otp_ending.specs.Told.{IsUnreadEnd}
 use Rattle.otp_ending.specs.declared.ending.ProgramEnd.{ProgramEnd}
 use Rattle.otp_ending.specs.declared.ending.ProgramEnd.TheVariants.{Done, TreeRefused, UnknownStart, WrongBody, CloseMismatch, CloseMissing, NotFinished, OutputFailed, OutOfMemory}
 
@@ -88,3 +90,17 @@ ending_of_run run.WrongBody = WrongBody
 ending_of_run run.TooManyTables = TreeRefused fault.TooManyTables
 ending_of_run run.Mismatch = CloseMismatch
 ending_of_run run.Misplaced = CloseMissing
+
+-- a run of the tree of a file whose bytes are known to be so: it can't be read, or it was run
+abbrev pub RunsTree : (List ℕ → Type 0) → Bool → List ℕ → Bool → ProgramEnd → Written → Written → Type 0
+RunsTree Holds is_json name counted ending old new =
+    (IsUnreadEnd ending × (new ≡ old)) ⊎ ((file : List ℕ) × (Holds file × IsTreeRun is_json name counted ending file old new))
+
+-- the tree of such a file was served for a time
+abbrev pub ServesTree : (List ℕ → Type 0) → Bool → List ℕ → ProgramEnd → Written → Written → Type 0
+ServesTree Holds is_json name ending old new =
+    (IsUnreadEnd ending × (new ≡ old)) ⊎ ((file : List ℕ) × (Holds file × IsTreeServed is_json name ending file old new))
+
+-- what the program with threads does with a tree
+abbrev pub on_threads : TreeRuns
+on_threads = record { by_turns = RunsTree; for_a_time = ServesTree }

@@ -1,12 +1,13 @@
-//! `run`: a tree is run on threads, with worked jobs, and it is told what came of it. It is what the program hands to `otp_console`
-//! as its runner of trees.
+//! The program with trees that run: `run` runs one on threads, with worked jobs, and tells what came of it. All else that words ask
+//! for `otp_console` does.
 #![tactic(auto)]
 
-mod runner;
+pub mod program;
 pub mod running;
 pub mod serving;
 mod standing;
 mod watching;
 
-pub use running::{Pool, run_file};
-pub use serving::serve_file;
+pub use program::run_with;
+pub use running::{Pool, RunAs, run_file};
+pub use serving::{ServeAs, serve_file};

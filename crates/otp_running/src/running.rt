@@ -9,11 +9,11 @@ ghost use Rattle.otp_ending.specs.Told.{IsTold, TellsFirst};
 ghost use Rattle.otp_running.specs.Running.{IsEndOfRun, IsSaid, IsTreeRun, ending_of_run};
 
 use crate::standing::draw_standing;
-use otp_console::runner::RunAs;
 use otp_ending::{ProgramEnd, explain};
 use otp_file::{TreeFault, TreeSpec, read_tree};
 use otp_jobs::{FileRunFault, run_worked};
 use otp_outcome::{Limit, write_awaited, write_lives, write_run_object};
+use otp_roles::Settings;
 use otp_sim::{Failed, Output, write_all};
 use otp_starts::find_unfit;
 use otp_text::write_number;
@@ -34,6 +34,13 @@ pub struct Pool<'a, H, G, L> {
     pub gate: &'a G,
     /// Who is told what happens to each process of a tree that is served for a time.
     pub watch: &'a L,
+}
+
+/// How a tree is run, and what is told of it.
+#[derive(Drop)]
+pub struct RunAs {
+    pub settings: Settings,
+    pub shows: RunShows,
 }
 
 /// The tree that a file says, which has 64 supervisors at most.

@@ -13,7 +13,6 @@ ghost use Rattle.otp_close.specs.Closes.{HaveBegun, IsReportOf};
 
 use crate::running::{Pool, ending_of_live, refuse_run, remarks_on, say, tree_of};
 use crate::watching::AtPaths;
-use otp_console::runner::ServeAs;
 use otp_ending::{ProgramEnd, explain};
 use otp_file::TreeSpec;
 use otp_jobs::FileRunFault;
@@ -23,11 +22,19 @@ use otp_roles::Settings;
 use otp_serve::{PatientReport, serve_worked};
 use otp_sim::{Failed, Output, write_all};
 use otp_trial::plant_seats;
-use otp_words::Serving;
+use otp_words::{RunShows, Serving};
 use std::alloc::Global;
 use std::sync::Wait;
 use std::thread::Threads;
 use std::time::Clock;
+
+/// How a tree is served, for how long, and what is told of it.
+#[derive(Drop)]
+pub struct ServeAs {
+    pub settings: Settings,
+    pub serving: Serving,
+    pub shows: RunShows,
+}
 
 /// How long a tree is served that is to be served so.
 fn span_of(serving: Serving) -> Span {

@@ -1,6 +1,7 @@
 use Rattle.std.proofs.Common.{ℕ, List, [], Bor, inr, refl, subst, sym}
 use Rattle.otp_sim.specs.Devices.{Devices, devices}
 use Rattle.otp_console.specs.Runs.{ChecksAll, Does}
+use Rattle.otp_console.specs.Trees.{no_trees}
 use Rattle.otp_words.specs.declared.words.Command.{Command}
 use Rattle.otp_console.proofs.Untold.{appends_nothing}
 use Rattle.otp_console.proofs.program.do_command.Goals as goal
@@ -9,7 +10,7 @@ pub returns-in-Check-clause-done : goal.returns-in-Check-clause-done
 returns-in-Check-clause-done g c =
     let old : Devices = devices (g.R.Input.seen c.args.input.now) (g.W.Output.seen c.args.output.now) in
     let new : Devices = devices (g.R.Input.seen c.args.input.now) (g.W.Output.seen c.check_all.new.output) in
-    subst (λ (command : Command). Does (g.F.TreeFiles.known c.args.files.now) g.T.TreeRunner.runs command c.check_all.result old new) (sym c.in-Check.is) (
+    subst (λ (command : Command). Does (g.F.TreeFiles.known c.args.files.now) no_trees command c.check_all.result old new) (sym c.in-Check.is) (
       refl,
       subst (λ (names : List (Bor (List ℕ))). ChecksAll c.in-Check.checking.has_starts (λ (name : Bor (List ℕ)). (g.F.TreeFiles.known c.args.files.now).holds name.now) names c.check_all.result
           old.output new.output)
