@@ -1,4 +1,4 @@
-//! What one event does to a supervisor: a plain struct with a method for each rule of `otp_rules`, in a file of the
+//! What one event does to a supervisor: a plain struct with a method for most rules of `otp_rules`, in a file of the
 //! rule's name. Each method's contract is one equation with the rule. `otp_core` keeps the history beside it.
 #![tactic(auto)]
 

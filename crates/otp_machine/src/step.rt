@@ -14,22 +14,8 @@ use otp_rules::{Call, Ending, Item, Kind, Phase, Reply, Sequel, Waiting};
 impl Machine {
     ghost use Rattle.otp_machine.specs.Seen.{outcome_of, CanAdvance, CanDecide, HasMemory, IsSound};
     ghost use Rattle.otp_rules.specs.State.{is_over};
-    ghost use Rattle.otp_rules.specs.Step.{ask, decide, open_rows, resume, step_on, take_item, take_note, take_waiting, tick};
+    ghost use Rattle.otp_rules.specs.Step.{ask, decide, open_rows, resume, step_on, take_item, take_waiting, tick};
     ghost use Rattle.otp_rules.specs.Needs.{needs_number};
-
-    #[tactic(auto, unfolding(otp_rules::specs::Step::take_note))]
-    fn take_note(&mut self, note: &Note)
-        requires { CanDecide self.old }
-        ensures outcome { outcome_of self.new ≡ take_note note.now (outcome_of self.old) }
-        ensures room { CanAdvance self.new }
-    {
-        match note {
-            Note::Up(p) => self.take_up(*p),
-            Note::Ignored(p) => self.take_ignored(*p),
-            Note::Failed(p, reason) => self.take_failed(*p, reason),
-            Note::Exit(p, reason) => self.take_exit(*p, reason),
-        }
-    }
 
     #[tactic(auto, unfolding(otp_rules::specs::Step::ask))]
     fn ask(&mut self, number: u64, call: &Call)
@@ -46,18 +32,19 @@ impl Machine {
         }
     }
 
-    #[tactic(auto, unfolding(otp_rules::specs::Step::take_item))]
+    #[tactic(auto, unfolding(otp_rules::specs::Step::take_item, otp_rules::specs::Step::take_note))]
     fn take_item(&mut self, item: &Item)
         requires { CanDecide self.old }
         ensures outcome { outcome_of self.new ≡ take_item item.now (outcome_of self.old) }
         ensures room { CanAdvance self.new }
     {
         match item {
-            Item::Note(note) => {
-                if !is_over(self.phase) {
-                    self.take_note(note);
-                }
-            }
+            // A note changes nothing after the end.
+            Item::Note(_) if is_over(self.phase) => {}
+            Item::Note(Note::Up(p)) => self.take_up(*p),
+            Item::Note(Note::Ignored(p)) => self.take_ignored(*p),
+            Item::Note(Note::Failed(p, reason)) => self.take_failed(*p, reason),
+            Item::Note(Note::Exit(p, reason)) => self.take_exit(*p, reason),
             Item::Call(number, call) => self.ask(*number, call),
         }
     }
