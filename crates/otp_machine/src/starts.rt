@@ -1,31 +1,16 @@
-//! A child is started, and what answers its start (`specs/Starts` of the rules).
+//! What answers the start of a child (`specs/Starts` of the rules).
 
-ghost use Rattle.std.specs.Prelude.{◌≡◌, ◌<◌, Some, length, slice_get, vec_len, vec_capacity};
+ghost use Rattle.std.specs.Prelude.{◌≡◌, ◌<◌, Some, length, slice_get};
 
 use crate::machine::Machine;
-use otp_decisions::starts::find_due;
 use otp_reason::Reason;
-use otp_rules::{CallFault, Due, Effect, Ending, Reply, Sequel, Waiting};
+use otp_rules::{CallFault, Ending, Reply, Sequel, Waiting};
 use otp_table::RowState;
 
 impl Machine {
     ghost use Rattle.otp_table.specs.declared.row.Row.{Row};
     ghost use Rattle.otp_machine.specs.Seen.{outcome_of, CanAdvance, CanDecide};
-    ghost use Rattle.otp_rules.specs.Starts.{failed_after, start, take_failed, take_ignored, take_up, up_after};
-
-    #[tactic(auto, unfolding(otp_rules::specs::Starts::start, otp_rules::specs::Starts::start_row, otp_rules::specs::Places::at_row, otp_rules::specs::Places::at_found, otp_rules::specs::Places::at_place))]
-    pub(crate) fn start(&mut self, due: Due, number: u64)
-        requires { vec_len self.old.orders < vec_capacity self.old.orders }
-        ensures { outcome_of self.new ≡ start due number (outcome_of self.old) }
-    {
-        if let Some(place) = find_due(self.rows.as_slice(), self.rows.defined(), &due) {
-            self.rows.set_state(
-                place,
-                RowState::Starting(number, due.kept.unwrap_or(number)),
-            );
-        }
-        self.orders.push_reserved(Effect::Start(due.id, number));
-    }
+    ghost use Rattle.otp_rules.specs.Starts.{failed_after, take_failed, take_ignored, take_up, up_after};
 
     #[tactic(auto, unfolding(otp_rules::specs::Starts::up_after))]
     fn up_after(&mut self, number: u64)

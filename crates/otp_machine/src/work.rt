@@ -4,7 +4,9 @@ ghost use Rattle.std.specs.Prelude.{◌≡◌, ◌&&◌, IsTrue, MatchOption, is
 
 use crate::machine::Machine;
 use crate::numbers::Numbers;
+use otp_decisions::starts::find_due;
 use otp_rules::{Effect, Reply, Sequel};
+use otp_table::RowState;
 
 impl Machine {
     ghost use Rattle.otp_machine.specs.Seen.{outcome_of, CanAdvance};
@@ -36,7 +38,8 @@ impl Machine {
         }
     }
 
-    #[tactic(auto, unfolding(otp_rules::specs::Work::start_first))]
+    /// The first child to start gets a number; where none is left, the work closes.
+    #[tactic(auto, unfolding(otp_rules::specs::Work::start_first, otp_rules::specs::Starts::start, otp_rules::specs::Starts::start_row, otp_rules::specs::Places::at_row, otp_rules::specs::Places::at_found, otp_rules::specs::Places::at_place))]
     pub(crate) fn start_first<N: Numbers>(&mut self, numbers: &mut N) -> Option<u64>
         requires room { CanAdvance self.old }
         requires number { IsTrue (has_due self.old.to_start.items) → N.can_give numbers.old }
@@ -49,7 +52,11 @@ impl Machine {
             return None;
         };
         let number = numbers.next();
-        self.start(due, number);
+        if let Some(place) = find_due(self.rows.as_slice(), self.rows.defined(), &due) {
+            let kept = due.kept.unwrap_or(number);
+            self.rows.set_state(place, RowState::Starting(number, kept));
+        }
+        self.orders.push_reserved(Effect::Start(due.id, number));
         Some(number)
     }
 
