@@ -81,7 +81,7 @@ impl Machine {
     }
 
     /// The open work goes on as far as it can.
-    #[tactic(auto, unfolding(otp_rules::specs::Work::advance, otp_rules::specs::Needs::work_starts))]
+    #[tactic(auto, unfolding(otp_rules::specs::Work::advance, otp_rules::specs::Work::stop_first, otp_rules::specs::Needs::work_starts))]
     pub(crate) fn advance<N: Numbers>(&mut self, numbers: &mut N) -> Option<u64>
         requires room { CanAdvance self.old }
         requires number { IsTrue (work_starts (outcome_of self.old)) → N.can_give numbers.old }
@@ -90,7 +90,11 @@ impl Machine {
         ensures drawn { MatchOption result (numbers.new ≡ numbers.old) (λ n. N.gives numbers.old n numbers.new) }
     {
         if self.follows.is_some() && !self.rows.has_awaited() {
-            self.stop_first(numbers)
+            if self.to_stop.is_empty() {
+                self.start_first(numbers)
+            } else {
+                self.stop_first(numbers)
+            }
         } else {
             None
         }
