@@ -140,7 +140,7 @@ CHANGES = [
      [(DEATHS, "fn retry(", "self.restart(place, kept);",
        "let strategy = self.strategy;\n            if ON && !strategy.is_simple() {\n                self.strategy = otp_spec::Strategy::OneForOne;\n            }\n"
        "            self.restart(place, kept);\n            self.strategy = strategy;")]),
-    ("a failed restart keeps its own number, not the one that died", [(STARTS, "fn start(", "due.kept.unwrap_or(number)", "if ON { number } else { due.kept.unwrap_or(number) }")]),
+    ("a failed restart keeps its own number, not the one that died", [(WORK, "fn start_first", "due.kept.unwrap_or(number)", "if ON { number } else { due.kept.unwrap_or(number) }")]),
     ("a failed restart is given up", [(STARTS, "Some(Sequel::Nothing) => {", "self.put_last(Waiting::Retry(kept));", "if !ON {\n                    self.put_last(Waiting::Retry(kept));\n                }")]),
     ("one restart more than the intensity is borne",
      [(WINDOW, "fn is_crowded_with(", "if limit == 0 {", "let limit = if ON { limit + 1 } else { limit };\n    if limit == 0 {")]),
