@@ -1,5 +1,5 @@
 //! The bodies that a supervisor keeps: of children that have no process, and those that no child has.
-ghost use Rattle.std.specs.Prelude.{◌≡◌, ℕ, ◌+◌, ◌<◌, ◌≤◌, ◌++◌, ◌∷◌, [], true, get_or, is_some, false, length, position, remove, slice_set, Bool, IfErr, IfOk, IfSome, IsTrue, MatchOption, None, OnOk, OnErr, Some};
+ghost use Rattle.std.specs.Prelude.{◌≡◌, ℕ, ◌+◌, ◌<◌, ◌≤◌, ◌++◌, ◌∷◌, ◌↔◌, [], true, get_or, is_some, false, length, position, remove, slice_set, Bool, IfErr, IfOk, IfSome, IsTrue, MatchOption, None, OnOk, OnErr, Some};
 ghost use Rattle.std.specs.List.{list_any};
 ghost use Rattle.otp_bodies.specs.Bodies.{AreHere, AreThere, are_ready, come_home, came_for, count_given, handed_in, has_body, home_or_free, IsNew, is_at_home, is_away, is_here, is_left_of, is_stray, is_waiting, move_first, opened, place_of_call, place_without_line, put_home, settled, without_first, count_opened};
 ghost use Rattle.otp_bodies.specs.Loose.{is_with_call};
@@ -170,6 +170,13 @@ impl<B: Drop> Bodies<B> {
         Ok(())
     }
 
+    /// Whether there is memory for one more. Where there is, [`Bodies::prepare`] has nothing to take.
+    pub fn has_room(&self) -> bool
+        ensures { IsTrue result ↔ (0 < self.now.room) }
+    {
+        self.kept.len() < self.kept.capacity() && self.bodies.len() < self.bodies.capacity()
+    }
+
     /// Takes the memory for one more.
     pub fn prepare(&mut self) -> Result<(), AllocError>
         ensures kept { self.new.kept ≡ self.old.kept }
@@ -337,12 +344,20 @@ impl<B: Drop> Bodies<B> {
         self.move_to(at, home_or_free(slot));
     }
 
+    /// Whether [`Bodies::settle`] would change nothing, as far as a look at one body tells.
+    pub fn is_settled(&self, rows: &[Row], is_any_waiting: bool) -> bool
+        requires { AreBelow rows.now }
+        ensures { IsTrue result → settled rows.now is_any_waiting self.now.kept ≡ self.now.kept }
+    {
+        is_alone_and_stays(&self.kept, self.only, rows, is_any_waiting)
+    }
+
     /// Once these are the rows: bodies of children that are gone are whose they were before.
     pub fn settle(&mut self, rows: &[Row], is_any_waiting: bool)
         requires { AreBelow rows.now }
         ensures { self.new.kept ≡ settled rows.now is_any_waiting self.old.kept }
     {
-        if is_alone_and_stays(&self.kept, self.only, rows, is_any_waiting) {
+        if self.is_settled(rows, is_any_waiting) {
             return;
         }
         settle_items(&mut self.kept, rows, is_any_waiting);
