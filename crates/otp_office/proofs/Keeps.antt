@@ -17,12 +17,11 @@ use Rattle.otp_signals.specs.Lists.{EachBetween}
 use Rattle.otp_rules.specs.declared.event.Item.{Item}
 use Rattle.otp_rules.specs.declared.event.Kind.{Kind}
 use Rattle.otp_rules.specs.declared.event.Kind.TheVariants as kind
-use Rattle.otp_office.specs.Events.{item_of, items_of, Readied, Happened, drawn_by}
+use Rattle.otp_office.specs.Events.{item_of, items_of, Happened, drawn_by}
 use Rattle.otp_office.specs.Offices.{OfficeView, IsOffice, Begins, sent_of}
 use Rattle.otp_office.specs.Orders.{orders_in, orders_along}
 use Rattle.otp_office.specs.Posts.{ArePosts, words_in}
 use Rattle.otp_office.proofs.Posting.{none_left, posted_same}
-use Rattle.otp_office.proofs.Readying.{readied_base, readied_history}
 
 -- the orders of one event more
 pub orders_on : (s : State) (es : List Event) (e : Event) → orders_of s (es ++ e ∷ []) ≡ orders_of s es ++ (step (state_after s es) e).orders
@@ -43,25 +42,6 @@ along_on core next e base history =
 pub along_same : (core next : View) → next.base ≡ core.base → next.history ≡ core.history → orders_along next ≡ orders_along core
 along_same core next base history =
     ap (λ (b : State). orders_in (orders_of b next.history)) base ∙ ap (λ (h : List Event). orders_in (orders_of core.base h)) history
-
--- nothing but memory was taken
-pub readied : (old new : OfficeView) → Readied old new → IsOffice old → IsOffice new
-readied old new r i =
-    let all : orders_along new.core ≡ orders_along old.core = along_same old.core new.core (readied_base old new r) (readied_history old new r) in
-    let sent : sent_of new ≡ sent_of old = ap (λ n. take n (orders_along new.core)) r.sent ∙ ap (λ (l : List Effect). take old.sent l) all in
-    let Next : List Effect → Type 0 = λ l. ArePosts (sent_of new) l (words_in new.owner.posts) in
-    let Slots : Holding → Type 0 = λ h. EachBetween new.first_slot (new.first_slot + 256) (Contains h.slots) in
-    let From : ℕ → Type 0 = λ n. EachBetween n (n + 256) (Contains old.owner.slots) in
-    record {
-      begins = subst Begins (sym (readied_base old new r)) i.begins;
-      cut = subst (λ (v : View). v.cut ≤ length v.history) (sym r.core) i.cut;
-      numbers = ap (λ (h : Holding). h.drawn) r.owner ∙ i.numbers ∙ ap numbers_of (sym (readied_history old new r));
-      orders = r.outbox ∙ i.orders ∙ ap (λ n. drop n (orders_along old.core)) (sym r.sent) ∙ ap (λ (l : List Effect). drop new.sent l) (sym all);
-      counted = let c = i.counted in let s = r.sent in let l = ap (λ (x : List Effect). length x) all in omega arith;
-      posts = subst Next (sym r.outbox) (posted_same old new old.outbox sent (ap (λ (h : Holding). h.posts) r.owner) i.posts);
-      slots = subst Slots (sym r.owner) (subst From (sym r.first_slot) i.slots);
-      fits = let f = i.fits in let e = r.first_slot in omega arith;
-    }
 
 drawn_on : (drawn next : List ℕ) (h longer : List Event) (reading : ℕ) (number : Option ℕ) (kind : Kind) → drawn ≡ numbers_of h
     → longer ≡ h ++ record { reading = reading; number = number; kind = kind } ∷ []

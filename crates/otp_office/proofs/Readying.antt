@@ -1,5 +1,5 @@
 -- Nothing but memory was taken: a core is the same to whoever decides.
-use Rattle.std.proofs.Common.{◌≡◌, ◌∙◌, false, ap}
+use Rattle.std.proofs.Common.{◌≡◌, ◌∙◌, false, ap, refl}
 use Rattle.otp_core.specs.View.{View, stored_of}
 use Rattle.otp_office.specs.Offices.{OfficeView}
 use Rattle.otp_core.specs.Full.{is_full}
@@ -20,3 +20,7 @@ readied_cut old new r = ap (λ (v : View). v.cut) r.core
 -- there is room as before
 pub readied_room : (old new : OfficeView) → Readied old new → is_full old.core ≡ false → is_full new.core ≡ false
 readied_room old new r room = ap is_full r.core ∙ room
+
+-- where it was there already, nothing at all was taken
+pub readied_before : (o : OfficeView) → Readied o o
+readied_before o = record { core = refl; owner = refl; outbox = refl; sent = refl; first_slot = refl }

@@ -14,7 +14,6 @@ ghost use Rattle.otp_office.specs.Cuts.{HasTooManyEvents, cut_office};
 ghost use Rattle.otp_core.specs.Full.{is_full};
 ghost use Rattle.otp_office.specs.Answers.{HasTurned, early_answer};
 ghost use Rattle.otp_bodies.specs.Slots.{AreBelow};
-ghost use Rattle.otp_office.specs.declared.turns.TurnFault.TheVariants as fault;
 
 use crate::draws::step_drawing;
 use crate::orders::{count_orders, count_starts, first_order};
@@ -56,18 +55,6 @@ impl<N: WordsNaming> Model for Office<N> {
     ghost view = { λ o. record { core = o.core; owner = o.owner; outbox = orders_in (drop o.next o.core.effects); sent = o.sent.count; first_slot = o.first_slot } };
 
     ghost invariant = { λ o. IsOffice (record { core = o.core; owner = o.owner; outbox = orders_in (drop o.next o.core.effects); sent = o.sent.count; first_slot = o.first_slot }) };
-}
-
-/// Takes the memory of the next event. A refusal leaves the core as it was.
-fn ready(core: &mut Core) -> Result<(), TurnFault>
-    ensures core { core.new ≡ record core.old { prepared = core.new.prepared } }
-    ensures prepared { OnOk result (core.new.prepared ≡ true) }
-    ensures refused { IfErr result (λ why. why ≡ fault.OutOfMemory) }
-{
-    match core.prepare() {
-        Ok(()) => Ok(()),
-        Err(_) => Err(TurnFault::OutOfMemory),
-    }
 }
 
 fn is_told(signal: Signal) -> bool
@@ -159,6 +146,15 @@ impl<N: WordsNaming> Office<N> {
         self.core.has_ended()
     }
 
+    /// Whether the memory of the next event is there, and a number is left for it. Where they are, [`Office::prepare`] has
+    /// nothing to take.
+    pub fn is_prepared(&self) -> bool
+        ensures prepared { IsTrue result → self.now.core.prepared ≡ true }
+        ensures quota { IsTrue result → 0 < self.now.owner.quota }
+    {
+        self.core.is_prepared() && self.owner.quota() > 0
+    }
+
     /// Takes the memory of the next event, and sees that a number is left for it. A refusal changes nothing.
     pub fn prepare(&mut self) -> Result<(), TurnFault>
         ensures readied { Readied self.old self.new }
@@ -169,7 +165,10 @@ impl<N: WordsNaming> Office<N> {
         if self.owner.quota() == 0 {
             return Err(TurnFault::Exhausted);
         }
-        ready(&mut self.core)
+        match self.core.prepare() {
+            Ok(()) => Ok(()),
+            Err(_) => Err(TurnFault::OutOfMemory),
+        }
     }
 
     /// One event. Its number is drawn where it starts a child.
