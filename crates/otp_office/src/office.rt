@@ -15,7 +15,7 @@ ghost use Rattle.otp_core.specs.Full.{is_full};
 ghost use Rattle.otp_office.specs.Answers.{HasTurned, early_answer};
 ghost use Rattle.otp_bodies.specs.Slots.{AreBelow};
 
-use crate::draws::step_drawing;
+use crate::draws::Draws;
 use crate::orders::{count_orders, count_starts, first_order};
 use crate::turns::{TurnAnswer, TurnFault};
 use otp_core::{Core, CutFault, ReplyAnswer};
@@ -181,7 +181,11 @@ impl<N: WordsNaming> Office<N> {
         ensures { Happened reading kind self.old self.new }
     {
         self.core.clear_effects();
-        step_drawing(&mut self.core, words, &mut self.owner, reading, kind);
+        let mut draws = Draws {
+            words,
+            owner: &mut self.owner,
+        };
+        self.core.step_with(reading, &kind, &mut draws);
         self.next = 0;
     }
 
