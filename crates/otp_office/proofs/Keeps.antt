@@ -20,7 +20,7 @@ use Rattle.otp_rules.specs.declared.event.Kind.TheVariants as kind
 use Rattle.otp_office.specs.Events.{item_of, items_of, Happened, drawn_by}
 use Rattle.otp_office.specs.Offices.{OfficeView, IsOffice, Begins, sent_of}
 use Rattle.otp_office.specs.Orders.{orders_in, orders_along}
-use Rattle.otp_office.specs.Posts.{ArePosts, words_in}
+use Rattle.otp_office.specs.Posts.{words_in}
 use Rattle.otp_office.proofs.Posting.{none_left, posted_same}
 
 -- the orders of one event more
