@@ -65,20 +65,9 @@ pub fn one_turn_at<J: Job, S: Subsystem>(
     let Some(body) = inside.body.take() else {
         unreachable!();
     };
-    if inside.phase == ProcessPhase::Fresh {
-        return first_turn(inside, body, site);
+    if inside.phase != ProcessPhase::Fresh {
+        return later_turn(inside, signal, body);
     }
-    later_turn(inside, signal, body)
-}
-
-fn first_turn<J: Job, S: Subsystem>(
-    inside: Emptied<J, S>,
-    body: Body<J, S>,
-    site: &Site<'_>,
-) -> After<J, S>
-    requires { IsRunnable (Some body) }
-    ensures { FirstTurn J.started S.inited inside.value.ticket (Some body) result }
-{
     match body {
         Body::Worker(job) => start_job(inside, job, site),
         Body::Bridge(bridge) => start_bridge(inside, bridge),
@@ -215,13 +204,17 @@ fn refill<J: Drop, S: Drop>(mut inside: Emptied<J, S>, body: Body<J, S>) -> Proc
     Process { inside }
 }
 
+// It exits in a turn, for this reason.
 fn exit<J: Drop, S: Drop>(inside: Emptied<J, S>, reason: Reason, body: Body<J, S>) -> After<J, S>
     ensures { result ≡ exited inside.value.ticket reason body }
 {
     let number = inside.ticket.number;
-    end(inside, Note::Exit(number, reason), body)
+    drop(inside);
+    let note = Note::Exit(number, reason);
+    After::Done(EndNote { note, body }, Spent::of(number))
 }
 
+// It ends with its start, and this note tells why.
 fn end<J: Drop, S: Drop>(inside: Emptied<J, S>, note: Note, body: Body<J, S>) -> After<J, S>
     ensures { result ≡ done inside.value.ticket note body }
 {
