@@ -261,6 +261,18 @@ impl<N: WordsNaming + RunNaming, J: Drop, S: Drop> Runner<N, J, S> {
         put_into(&mut self.turning, Some(rested.process));
     }
 
+    /// Gives its turn to the supervisor to which a letter has just gone, if that waits here.
+    pub fn wake_called(&mut self)
+        requires { self.old.turning ≡ None }
+        ensures unsent { self.new.unsent ≡ self.old.unsent }
+        ensures begun { NoneBegan self.old.scheduler self.new.scheduler }
+        ensures ended { NoneEnded self.old.scheduler self.new.scheduler }
+    {
+        if let Some(called) = self.resting.take_called() {
+            put_into(&mut self.turning, Some(called.process));
+        }
+    }
+
     /// Gives its turn to a job that waits, or stands aside, and was told something, if it is one of those that are looked at now. In a
     /// crowd the first goes into the deque, where other hands find it, and it is the next one's turn.
     pub fn wake_told(&mut self, words: &Words<N>)

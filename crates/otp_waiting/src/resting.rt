@@ -100,13 +100,13 @@ impl<J: Drop, S: Drop> Resting<J, S> {
         self.called = Some(table);
     }
 
-    /// The place of the one to which a letter has just gone, if it waits here. It is told once.
-    pub fn called_place(&mut self) -> Option<usize>
-        ensures same { self.new ≡ self.old }
-        ensures place { IfSome result (λ place. place < length self.old) }
+    /// Takes out the one to which a letter has just gone, if it waits here. It is told once.
+    pub fn take_called(&mut self) -> Option<Rested<J, S>>
+        ensures { MatchOption result (self.new ≡ self.old) (λ rested. IsTaken rested self.old self.new) }
     {
         let table = self.called.take()?;
-        find_table(self.list.as_slice(), table)
+        let place = find_table(self.list.as_slice(), table)?;
+        Some(self.list.swap_remove(place))
     }
 
     /// The least of the deadlines for which they wait.
