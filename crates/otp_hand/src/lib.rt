@@ -8,8 +8,8 @@
 //! - `reading.rt`: counts of supervisors, read without their locks.
 //! - `shared.rt`: the signal words and the supervisors themselves.
 //!
-//! A hand is opened with its tree (`otp_open`), has its turns in `otp_tree`, and is taken apart again in `otp_close`. Fields are open to
-//! those three; what has to hold of a value's fields is its type's invariant, which whoever changes them has to keep.
+//! A hand is opened with its tree (`otp_open`), has its turns in `otp_system`, and is taken apart again in `otp_close`. Fields are open
+//! to those three; what has to hold of a value's fields is its type's invariant, which whoever changes them has to keep.
 #![tactic(auto)]
 
 pub mod client;
