@@ -4,10 +4,9 @@ ghost use Rattle.otp_bodies.specs.Ports.{launched, told};
 ghost use Rattle.otp_bodies.specs.Letters.{Comes, carries_body, is_end_note};
 ghost use Rattle.otp_rules.specs.declared.event.Item.TheVariants as item;
 ghost use Rattle.otp_hand.specs.Begun.{NoneBegan};
-ghost use Rattle.otp_run.specs.Schedulers.{out};
 ghost use Rattle.otp_hand.specs.Ended.{NoneEnded, ends_held};
 ghost use Rattle.otp_hand.specs.Hands.{one_if};
-ghost use Rattle.otp_hand.specs.Turns.{IsTold, Worked, WorkedAsTold, nested_by, table_above, table_nested};
+ghost use Rattle.otp_hand.specs.Turns.{IsTold, WorkedAsTold, nested_by, table_above, table_nested};
 
 use crate::places::put_into;
 use otp_bridge::Subsystem;
@@ -299,8 +298,10 @@ impl<N: WordsNaming + RunNaming, J: Drop, S: Drop> Runner<N, J, S> {
         let Some(process) = self.turning.take() else {
             return;
         };
-        let back = put_again(&mut self.scheduler, &mut self.around, process);
-        put_into(&mut self.turning, back);
+        match self.scheduler.give_back(process) {
+            Ok(()) => self.around.gained(),
+            Err(process) => put_into(&mut self.turning, Some(process)),
+        }
     }
 
     /// Gives its turn to a job that waits, or stands aside, and was told something, if it is one of those that are looked at now.
@@ -334,17 +335,23 @@ impl<N: WordsNaming + RunNaming, J: Drop, S: Drop> Runner<N, J, S> {
             self.take_own();
             return;
         }
-        if self.around.tries_others() {
-            let next = self.scheduler.next();
-            put_into(&mut self.turning, next);
-            let has_found = self.turning.is_some();
-            note_search(&mut self.around, has_found);
-            return;
-        }
-        let next = self.scheduler.next_own();
+        let tries_others = self.around.tries_others();
+        let next = if tries_others {
+            self.scheduler.next()
+        } else {
+            self.scheduler.next_own()
+        };
         put_into(&mut self.turning, next);
         let has_found = self.turning.is_some();
-        note_own_search(&mut self.around, has_found);
+        self.around.tried_own(has_found);
+        if has_found {
+            return;
+        }
+        if tries_others {
+            self.around.tried_in_vain();
+        } else {
+            self.around.spared_others();
+        }
     }
 
     /// Gives its turn to the first process of its own deque, or else to the next that stands aside.
@@ -406,8 +413,10 @@ impl<N: WordsNaming + RunNaming, J: Drop, S: Drop> Runner<N, J, S> {
             self.bring_back();
             return;
         }
-        let back = put_again(&mut self.scheduler, &mut self.around, process);
-        put_into(&mut self.turning, back);
+        match self.scheduler.give_back(process) {
+            Ok(()) => self.around.gained(),
+            Err(process) => put_into(&mut self.turning, Some(process)),
+        }
     }
 
     /// Puts one of those that stand aside back into the deque, if one is to come back.
@@ -419,9 +428,9 @@ impl<N: WordsNaming + RunNaming, J: Drop, S: Drop> Runner<N, J, S> {
         if self.turning.is_some() || !self.around.is_to_come_back() {
             return;
         }
-        if let Some(process) = self.waiting.take_aside() {
-            let back = put_again(&mut self.scheduler, &mut self.around, process);
-            put_into(&mut self.turning, back);
+        if let Some(aside) = self.waiting.take_aside() {
+            put_into(&mut self.turning, Some(aside));
+            self.offer();
         }
     }
 
@@ -522,25 +531,16 @@ impl<N: WordsNaming + RunNaming, J: Drop, S: Drop> Runner<N, J, S> {
 }
 
 impl<N: WordsNaming + RunNaming, J: Job, S: Subsystem> Runner<N, J, S> {
-    /// A turn of the worker or the bridge that it has out, at this reading of the clock. It is told what its supervisor has posted for it.
+    /// A turn of the worker or the bridge that it has out ([`one_turn_at`]), at this reading of the clock. It is told what its
+    /// supervisor has posted for it.
     pub fn work_as_told(&mut self, words: &Words<N>, reading: u64)
         requires { self.old.unsent ≡ None }
         ensures begun { NoneBegan self.old.scheduler self.new.scheduler }
+        // It ended exactly where its end note is to be sent.
         ensures ended { self.new.scheduler.ended ≡ self.old.scheduler.ended + ends_held self.new.unsent }
         ensures turn { IfSome self.old.turning (λ p. WorkedAsTold J.started S.inited J.is_trapping J.turned S.polled S.terminated words.now p self.old self.new) }
     {
         let told = self.look(words);
-        self.work(told, reading);
-    }
-
-    /// A turn of the worker or the bridge that it has out, which is told this ([`one_turn_at`]).
-    fn work(&mut self, told: Signal, reading: u64)
-        requires { self.old.unsent ≡ None }
-        ensures turn { IfSome self.old.turning (λ p. Worked J.started S.inited J.is_trapping J.turned S.polled S.terminated told p self.old self.new) }
-        ensures begun { NoneBegan self.old.scheduler self.new.scheduler }
-        // It ended exactly where its end note is to be sent.
-        ensures ended { self.new.scheduler.ended ≡ self.old.scheduler.ended + ends_held self.new.unsent }
-    {
         let Some(process) = self.turning.take() else {
             return;
         };
@@ -549,7 +549,10 @@ impl<N: WordsNaming + RunNaming, J: Job, S: Subsystem> Runner<N, J, S> {
             return;
         }
         let ticket = process.ticket();
-        self.around.take(process.slot());
+        // The turn that it has now is the one for which it was woken, if it was.
+        if let Some(post) = &self.around.post {
+            post.take(ticket.slot);
+        }
         let after = one_turn_at(process, told, &self.around.site(reading));
         match after {
             After::Again(process) => put_into(&mut self.turning, Some(process)),
@@ -568,42 +571,6 @@ impl<N: WordsNaming + RunNaming, J: Job, S: Subsystem> Runner<N, J, S> {
                 put_into(&mut self.unsent, Some(unsent_to(ticket, note, Some(body))));
             }
         }
-    }
-}
-
-/// Puts a process that is out into the deque again. It comes back where it can't be put.
-fn put_again<N: RunNaming, J: Drop, S: Drop>(
-    scheduler: &mut Scheduler<N, J, S>,
-    around: &mut Around,
-    process: Process<J, S>,
-) -> Option<Process<J, S>>
-    requires { 0 < out scheduler.old }
-    ensures back { MatchOption result (out scheduler.new + 1 ≡ out scheduler.old) (λ back. (back ≡ process) × (scheduler.new ≡ scheduler.old)) }
-    ensures begun { NoneBegan scheduler.old scheduler.new }
-    ensures ended { NoneEnded scheduler.old scheduler.new }
-{
-    match scheduler.give_back(process) {
-        Ok(()) => {
-            around.gained();
-            None
-        }
-        Err(process) => Some(process),
-    }
-}
-
-/// Notes whether a search of all deques found a process.
-fn note_search(around: &mut Around, has_found: bool) {
-    around.tried_own(has_found);
-    if !has_found {
-        around.tried_in_vain();
-    }
-}
-
-/// Notes whether a search of the hand's own deque found a process.
-fn note_own_search(around: &mut Around, has_found: bool) {
-    around.tried_own(has_found);
-    if !has_found {
-        around.spared_others();
     }
 }
 

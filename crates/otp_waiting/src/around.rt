@@ -211,13 +211,6 @@ impl Around {
         }
     }
 
-    /// Notes that it has a turn.
-    pub fn take(&self, slot: usize) {
-        if let Some(post) = &self.post {
-            post.take(slot);
-        }
-    }
-
     /// Notes that it begins to wait in this hand. False where it was woken meanwhile.
     pub fn begins_to_wait(&self, slot: usize, hand: usize) -> bool {
         match &self.post {
