@@ -15,7 +15,8 @@ use otp_window::Within;
 impl Machine {
     ghost use Rattle.otp_table.specs.declared.row.Row.{Row};
     ghost use Rattle.otp_machine.specs.Seen.{outcome_of, CanAdvance, CanDecide, CanStop};
-    ghost use Rattle.otp_rules.specs.Deaths.{after_end, death, restart, restart_rows, retry, take_exit};
+    ghost use Rattle.otp_rules.specs.Deaths.{after_end, restart, restart_rows, retry, take_exit};
+    ghost use Rattle.otp_rules.specs.Places.{end_row};
 
     #[tactic(auto, unfolding(otp_rules::specs::Deaths::restart_rows))]
     fn restart_rows(&mut self, from: usize, to: usize, place: usize, kept: u64)
@@ -76,27 +77,22 @@ impl Machine {
         }
     }
 
-    /// The process ended by itself, with no work open.
-    #[tactic(auto, unfolding(otp_rules::specs::Deaths::death))]
-    fn death(&mut self, place: usize, number: u64, reason: &Reason)
+    /// The child at the place, whose process ended by itself, isn't started again.
+    #[tactic(auto, unfolding(otp_rules::specs::Deaths::after_end))]
+    fn end_for_good(&mut self, place: usize, number: u64)
         requires room { CanDecide self.old }
         requires place { place < length self.old.rows.rows }
         ensures outcome { (row : Row) → slice_get self.old.rows.rows place ≡ Some row →
-            outcome_of self.new ≡ death number reason.now place row (outcome_of self.old) }
+            outcome_of self.new ≡ after_end number row (end_row place row (outcome_of self.old)) }
         ensures room { CanAdvance self.new }
     {
-        let restart = self.rows.get(place).spec.restart;
-        if is_restarted(restart, reason) {
-            self.restart(place, number);
-        } else {
-            let row = *self.rows.get(place);
-            self.end_row(place);
-            self.after_end(number, &row);
-        }
+        let row = *self.rows.get(place);
+        self.end_row(place);
+        self.after_end(number, &row);
     }
 
     /// The note Exit.
-    #[tactic(auto, unfolding(otp_rules::specs::Deaths::take_exit, otp_rules::specs::Deaths::exit_in, otp_rules::specs::Places::at_number, otp_rules::specs::Places::at_row, otp_rules::specs::Places::at_found, otp_rules::specs::Places::at_place))]
+    #[tactic(auto, unfolding(otp_rules::specs::Deaths::take_exit, otp_rules::specs::Deaths::exit_in, otp_rules::specs::Deaths::death, otp_rules::specs::Places::at_number, otp_rules::specs::Places::at_row, otp_rules::specs::Places::at_found, otp_rules::specs::Places::at_place))]
     pub(crate) fn take_exit(&mut self, number: u64, reason: &Reason)
         requires { CanDecide self.old }
         ensures outcome { outcome_of self.new ≡ take_exit number reason.now (outcome_of self.old) }
@@ -113,8 +109,10 @@ impl Machine {
             RowState::Up(_) => {
                 if self.follows.is_some() {
                     self.put_last(Waiting::Item(Item::Note(Note::Exit(number, *reason))));
+                } else if is_restarted(self.rows.get(place).spec.restart, reason) {
+                    self.restart(place, number);
                 } else {
-                    self.death(place, number, reason);
+                    self.end_for_good(place, number);
                 }
             }
             RowState::Asked(..) | RowState::Killed(_) => self.end_row(place),
