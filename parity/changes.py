@@ -148,7 +148,7 @@ CHANGES = [
      [(WINDOW, "fn is_within(", "<= 1000 * period", "<= 1000 * if ON { period + 1 } else { period }")]),
     ("a restart at the end of a period is outside",
      [(WINDOW, "fn is_within(", "now - stamp <=", "now - stamp + (if ON { 1 } else { 0 }) <=")]),
-    ("the end of a temporary child counts as a restart", [(DEATHS, "fn death(", "self.end_row(place);", "if ON && row.spec.restart == otp_spec::Restart::Temporary {\n                let _ = self.window.add(self.last);\n            }\n            self.end_row(place);")]),
+    ("the end of a temporary child counts as a restart", [(DEATHS, "fn end_for_good(", "self.end_row(place);", "if ON && row.spec.restart == otp_spec::Restart::Temporary {\n                let _ = self.window.add(self.last);\n            }\n            self.end_row(place);")]),
     ("too many restarts end the supervisor before its children",
      [(DEATHS, "Within::Exceeded => ", "self.terminate(Ending::Intensity)", "if ON { self.end_all(Ending::Intensity) } else { self.terminate(Ending::Intensity) }")]),
     ("a sibling that waits for its retry waits on after a restart of all", [(DEATHS, "fn restart_rows", "self.rows.calm(from, to);", "if !ON {\n            self.rows.calm(from, to);\n        }")]),
@@ -161,7 +161,8 @@ CHANGES = [
     ("a significant child that is terminated ends the supervisor",
      [(DEATHS, "fn take_exit", "RowState::Asked(..) | RowState::Killed(_) => ", "RowState::Asked(..) if ON => {\n                let row = *self.rows.get(place);\n                self.end_row(place);\n                self.after_end(number, &row);\n            }\n            RowState::Asked(..) | RowState::Killed(_) => ")]),
     ("a temporary significant child that fails doesn't end the supervisor",
-     [(DEATHS, "fn death(", "self.after_end(number, &row);", "if !ON || reason.is_quiet() {\n                self.after_end(number, &row);\n            }")]),
+     [(DEATHS, "fn take_exit(", "self.end_for_good(place, number);",
+       "if !ON || reason.is_quiet() {\n                        self.end_for_good(place, number);\n                    } else {\n                        self.end_row(place);\n                    }")]),
     # The opening
     ("a failed opening doesn't stop the children", [(STARTS, "Some(Sequel::Ready) => {", "self.terminate(Ending::InitFailed(id));", "if ON {\n                    self.end_all(Ending::InitFailed(id));\n                } else {\n                    self.terminate(Ending::InitFailed(id));\n                }")]),
     ("a failed opening ends with shutdown", [(ENDS, "Ending::InitFailed(id) => SupEnd", "reason: init_failed(id)", "reason: if ON { Reason::Shutdown } else { init_failed(id) }")]),
