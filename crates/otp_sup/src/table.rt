@@ -9,7 +9,7 @@ ghost use Rattle.otp_core.specs.View.{state_of};
 ghost use Rattle.otp_rules.specs.Counts.{counts_of};
 ghost use Rattle.otp_rules.specs.Next.{next_deadline};
 ghost use Rattle.otp_core.specs.Replies.{IsReplyAnswer};
-ghost use Rattle.otp_counts.specs.Counts.{after_publish, fresh_pass};
+ghost use Rattle.otp_counts.specs.Counts.{fresh_pass};
 ghost use Rattle.otp_bodies.specs.Bodies.{are_ready, bodies_in, bodies_sent, is_left_of, is_stray, settled, without_first, count_opened};
 ghost use Rattle.otp_sup.specs.Cuts.{WasCut};
 ghost use Rattle.otp_sup.specs.Facts.{KeepsRules};
@@ -62,13 +62,6 @@ impl<N: SupNaming, B: Drop> Model for Table<N, B> {
     ghost invariant = { λ t. IsTable N.plan (record { office = t.office; taker = t.taker; bodies = t.bodies.kept; counts = t.counts; ends_told = t.ends.items }) };
 }
 
-/// Publishes what count_children would answer now.
-fn publish<N: WordsNaming>(office: &Office<N>, counts: &mut Publisher)
-    ensures { counts.new ≡ after_publish (counts_of (state_of office.now.core)) counts.old }
-{
-    counts.publish(office.counts());
-}
-
 impl<N: SupNaming, B: Drop> Table<N, B> {
     /// The table of a supervisor that was never opened, with the bodies of its child specifications: one at least for
     /// each child that an opening makes ([`Bodies::are_ready`], [`count_opened`]). Published of it is
@@ -106,7 +99,7 @@ impl<N: SupNaming, B: Drop> Table<N, B> {
     /// history that it stores; that history holds each signal taken from its queue once, in order; no period in it has more restarts than the
     /// intensity unless the supervisor is ending; and no process number is a child's in two supervisors.
     ///
-    /// The last part is what `System::close` of otp_tree says, which gets all seats back: this call says of it that its process
+    /// The last part is what `close_tree` of otp_tree says, which gets all seats back: this call says of it that its process
     /// numbers are those that its own seat drew. Sent orders are those that it sent, followed by those
     /// still to be sent; signals are the items of its inbox; the period is one since it was last opened (of all openings the law
     /// `restart_rate` says it); one that is ending takes, or took, the one restart too many.
@@ -165,7 +158,7 @@ impl<N: SupNaming, B: Drop> Table<N, B> {
         self.office.keeps_rules();
         let old = mem::replace(&mut self.bodies, bodies);
         drop(old);
-        publish(&self.office, &mut self.counts);
+        self.counts.publish(self.office.counts());
     }
 
     /// One turn of the supervisor, under the process number that it is to have, at this reading of the clock in
@@ -224,7 +217,7 @@ impl<N: SupNaming, B: Drop> Table<N, B> {
                 kind,
                 None,
             );
-            publish(&self.office, &mut self.counts);
+            self.counts.publish(self.office.counts());
             inbox.credit(&mut self.taker, sender, 0, 1);
             return Ok(answer_of(kind));
         }
@@ -247,7 +240,7 @@ impl<N: SupNaming, B: Drop> Table<N, B> {
             kind,
             body,
         );
-        publish(&self.office, &mut self.counts);
+        self.counts.publish(self.office.counts());
         inbox.credit(&mut self.taker, sender, 0, 1);
         Ok(TurnAnswer::Took)
     }
