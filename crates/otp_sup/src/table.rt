@@ -207,7 +207,9 @@ impl<N: SupNaming, B: Drop> Table<N, B> {
         if let Some(early) = self.office.early_answer(number) {
             return early;
         }
-        make_ready(&mut self.office, &mut self.bodies, &mut self.ends)?;
+        if !is_ready(&self.office, &self.bodies, &self.ends) {
+            make_ready(&mut self.office, &mut self.bodies, &mut self.ends)?;
+        }
         if let Some(kind) = self.office.due_kind(number, reading, told) {
             happen(
                 &mut self.office,
@@ -230,7 +232,6 @@ impl<N: SupNaming, B: Drop> Table<N, B> {
             });
         };
         let event = self.office.events();
-        keep_end(&mut self.ends, event, item, end);
         let kind = Kind::Took(item);
         happen(
             &mut self.office,
@@ -242,6 +243,9 @@ impl<N: SupNaming, B: Drop> Table<N, B> {
         );
         self.counts.publish(self.office.counts());
         inbox.credit(&mut self.taker, sender, 0, 1);
+        if let Some(end) = end {
+            keep_end(&mut self.ends, event, item, Some(end));
+        }
         Ok(TurnAnswer::Took)
     }
 
@@ -407,6 +411,21 @@ impl<N: SupNaming, B: Drop> Table<N, B> {
         let _ = &self.taker;
         self.bodies.take_of_nobody()
     }
+}
+
+/// Whether the memory of the next event is there, and a number is left for it. A turn that finds nothing to do leaves them
+/// there.
+fn is_ready<N: WordsNaming, B: Drop>(
+    office: &Office<N>,
+    bodies: &Bodies<B>,
+    ends: &Vec<ToldEnd>,
+) -> bool
+    ensures prepared { IsTrue result → office.now.core.prepared ≡ true }
+    ensures quota { IsTrue result → 0 < office.now.owner.quota }
+    ensures space { IsTrue result → 0 < bodies.now.room }
+    ensures room { IsTrue result → length ends.now.items < vec_capacity ends.now }
+{
+    ends.len() < ends.capacity() && bodies.has_room() && office.is_prepared()
 }
 
 /// Takes the memory of the next event, and sees that a number is left for it. A refusal changes nothing that contracts
