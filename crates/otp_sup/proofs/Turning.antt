@@ -101,6 +101,14 @@ took_since reading old mid new r t =
           ∙ ap (λ (l : List ToldEnd). l ++ told_with (length (stored_of old.office.core)) t.item t.end) r.ends;
     }
 
+-- a letter was taken, and then it was taken apart
+pub taken_apart : (old later : TakerState Message) (x item : Item) (e end : Option SupEnd) → later ≡ record old { taken = old.taken ++ message x e ∷ [] } → item ≡ x → end ≡ e
+    → later ≡ record old { taken = old.taken ++ message item end ∷ [] }
+taken_apart old later x item e end is same also =
+    is
+    ∙ ap (λ (i : Item). record old { taken = old.taken ++ message i e ∷ [] }) (sym same)
+    ∙ ap (λ (o : Option SupEnd). record old { taken = old.taken ++ message item o ∷ [] }) (sym also)
+
 -- an end that is kept is the one that came
 pub kept_end : (before after : List ToldEnd) (event stored : ℕ) (x : Item) (came : Option SupEnd) (end : SupEnd) → event ≡ stored → came ≡ Some end → after ≡ before ++ told_with event x (Some end)
     → after ≡ before ++ told_with stored x came

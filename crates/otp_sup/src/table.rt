@@ -1,7 +1,5 @@
 //! What lies under a supervisor's lock.
-ghost use Rattle.otp_bodies.specs.Letters.{Comes, carries_body};
-ghost use Rattle.otp_bodies.specs.Messages.{message};
-ghost use Rattle.std.specs.Prelude.{◌≡◌, ◌++◌, ◌∷◌, ◌+◌, ◌≤◌, ◌<◌, ◌↔◌, [], true, false, is_some, length, min, IfErr, IfNone, IfOk, IfSome, IsTrue, None, OnOk, Some, vec_capacity};
+ghost use Rattle.std.specs.Prelude.{◌≡◌, ◌∷◌, ◌+◌, ◌≤◌, ◌<◌, ◌↔◌, [], true, false, is_some, length, min, IfErr, IfOk, IsTrue, None, OnOk, Some, vec_capacity};
 ghost use Rattle.otp_inbox.specs.Tokens.{count_limit, no_shares};
 ghost use Rattle.std.specs.List.{list_any};
 ghost use Rattle.otp_spec.specs.declared.limits.TheConstants.{MAX_READING};
@@ -27,12 +25,12 @@ ghost use Rattle.otp_sup.specs.Turns.{Turned};
 use crate::cut::CutAnswer;
 use crate::moves::{come_back, happen, leave};
 use crate::naming::SupNaming;
-use otp_bodies::{Bodies, Evidence, Flushed, Letter, Message, Port, ToldEnd, keep_end};
+use otp_bodies::{Bodies, Flushed, Letter, Message, Port, ToldEnd, keep_end};
 use otp_core::{CutFault, ReplyAnswer};
 use otp_counts::{CountsPass, Publisher};
 use otp_inbox::{Inbox, InboxNaming, Sender, Taker};
 use otp_office::{Office, TurnAnswer, TurnFault, answer_of};
-use otp_rules::{Item, Kind, Reply};
+use otp_rules::{Kind, Reply};
 use otp_signals::{Signal, Words, WordsNaming};
 use otp_spec::SupSpec;
 use std::alloc::{AllocError, Global};
@@ -223,7 +221,7 @@ impl<N: SupNaming, B: Drop> Table<N, B> {
             inbox.credit(&mut self.taker, sender, 0, 1);
             return Ok(answer_of(kind));
         }
-        let Some((item, body, end)) = take_item(rt, inbox, &mut self.taker) else {
+        let Some(letter) = inbox.take(rt, &mut self.taker) else {
             inbox.credit(&mut self.taker, sender, 0, 1);
             return Ok(if self.office.has_ended() {
                 TurnAnswer::Ended
@@ -231,6 +229,7 @@ impl<N: SupNaming, B: Drop> Table<N, B> {
                 TurnAnswer::Quiet
             });
         };
+        let (item, body, end) = letter.into_parts();
         let event = self.office.events();
         let kind = Kind::Took(item);
         happen(
@@ -448,22 +447,6 @@ fn make_ready<N: WordsNaming, B: Drop>(
         return Err(TurnFault::OutOfMemory);
     }
     office.prepare()
-}
-
-/// Takes the item at the front, with the body and the end that it brings.
-fn take_item<N: InboxNaming, B: Drop, R: Wait>(
-    rt: &R,
-    inbox: &Inbox<N, Message, Letter<B>>,
-    taker: &mut Taker<N, Message, Letter<B>>,
-) -> Option<(Item, Option<B>, Option<Evidence>)>
-    requires { taker.old.inbox ≡ inbox.now }
-    ensures found { IfSome result (λ x. taker.new ≡ record taker.old { taken = taker.old.taken ++ message x.0 x.2 ∷ [] }) }
-    ensures body { IfSome result (λ x. is_some x.1 ≡ carries_body x.0) }
-    ensures end { IfSome result (λ x. Comes x.0 x.2) }
-    ensures empty { IfNone result (taker.new ≡ record taker.old { empty_finds = taker.old.empty_finds + 1 }) }
-{
-    let letter = inbox.take(rt, taker)?;
-    Some(letter.into_parts())
 }
 
 /// Credits a start, where the order that was sent was to start the child of this slot.
