@@ -205,6 +205,7 @@ impl<N: SupNaming, B: Drop> Table<N, B> {
         if let Some(early) = self.office.early_answer(number) {
             return early;
         }
+        // A supervisor that rests has this memory from its last turn.
         if !is_ready(&self.office, &self.bodies, &self.ends) {
             make_ready(&mut self.office, &mut self.bodies, &mut self.ends)?;
         }
