@@ -129,6 +129,38 @@ cut_of (Ok cut.Cut) old new none was = inl was.1
 cut_of (Ok cut.Pending) old new none was = absurd (false≢true (sym (ap (λ (l : List Effect). has_some l) none) ∙ was.0))
 cut_of (Err _) old new none was = inr (was.1, was.2)
 
+-- so it is where the turn was Full, after which nothing was to be sent
+pub cut_after_full : (result : Result TurnAnswer TurnFault) (said : Result CutAnswer CutFault) (old new now : TableView) → result ≡ Ok answer.Full → old.office.outbox ≡ [] → WasCut said old new → now ≡ new
+    → CutWhereFull result old now
+cut_after_full result said old new now is none was same =
+    subst (λ (r : Result TurnAnswer TurnFault). CutWhereFull r old now) (sym is) (subst (λ (t : TableView). CutWhereFull (Ok answer.Full) old t) (sym same) (cut_of said old new none was))
+
+-- after another turn nothing is done
+pub uncut : (result : Result TurnAnswer TurnFault) (old now : TableView) → (result ≡ Ok answer.Full → ⊥) → now ≡ old → CutWhereFull result old now
+uncut (Ok answer.Full) old now other same = absurd (other refl)
+uncut (Ok answer.Opened) old now other same = same
+uncut (Ok answer.Took) old now other same = same
+uncut (Ok answer.Resumed) old now other same = same
+uncut (Ok answer.Ticked) old now other same = same
+uncut (Ok answer.Stopped) old now other same = same
+uncut (Ok answer.Pending) old now other same = same
+uncut (Ok answer.Quiet) old now other same = same
+uncut (Ok answer.Ended) old now other same = same
+uncut (Err _) old now other same = same
+
+-- a cut changes nothing of the inbox
+pub cut_takes_none : (result : Result TurnAnswer TurnFault) (old now : TableView) → CutWhereFull result old now → now.taker ≡ old.taker
+cut_takes_none (Ok answer.Full) old now was = ⊎_elim (λ (made : IsCut old now). ap (λ (t : TableView). t.taker) made.is) (λ many. ap (λ (t : TableView). t.taker) many.1) was
+cut_takes_none (Ok answer.Opened) old now same = ap (λ (t : TableView). t.taker) same
+cut_takes_none (Ok answer.Took) old now same = ap (λ (t : TableView). t.taker) same
+cut_takes_none (Ok answer.Resumed) old now same = ap (λ (t : TableView). t.taker) same
+cut_takes_none (Ok answer.Ticked) old now same = ap (λ (t : TableView). t.taker) same
+cut_takes_none (Ok answer.Stopped) old now same = ap (λ (t : TableView). t.taker) same
+cut_takes_none (Ok answer.Pending) old now same = ap (λ (t : TableView). t.taker) same
+cut_takes_none (Ok answer.Quiet) old now same = ap (λ (t : TableView). t.taker) same
+cut_takes_none (Ok answer.Ended) old now same = ap (λ (t : TableView). t.taker) same
+cut_takes_none (Err _) old now same = ap (λ (t : TableView). t.taker) same
+
 -- the next turn under the same number isn't Full
 pub next_goes_on : (number reading : ℕ) (told : Signal) (old turned cut new : TableView) (before after : Taken) (result : Result TurnAnswer TurnFault)
     → Turned number reading told old turned result → CutWhereFull result turned cut → SentOrders cut.office new.office before after → result ≡ Ok answer.Full

@@ -1,10 +1,9 @@
 //! A table under its lock, beside its inbox.
-ghost use Rattle.std.specs.Prelude.{◌≡◌, ◌⊎◌, ◌+◌, ◌<◌, ◌≤◌, ◌↔◌, [], is_some, length, min, true, None, IfErr, IfOk, OnErr, OnOk, Ok};
+ghost use Rattle.std.specs.Prelude.{◌≡◌, ◌⊎◌, ◌+◌, ◌<◌, ◌≤◌, ◌↔◌, [], is_some, length, min, true, IsTrue, None, IfErr, IfOk, OnErr, OnOk, Ok};
 ghost use Rattle.otp_spec.specs.declared.limits.TheConstants.{MAX_READING};
 ghost use Rattle.otp_inbox.specs.Tokens.{count_limit};
 ghost use Rattle.otp_bodies.specs.Bodies.{are_ready, bodies_in, count_opened, is_left_of, is_stray};
 ghost use Rattle.otp_sup.specs.Anew.{IsOccupied, PlannedUnder, ToldUnused};
-ghost use Rattle.otp_sup.specs.Cuts.{CutWhereFull};
 ghost use Rattle.otp_sup.specs.Facts.{KeepsRules};
 ghost use Rattle.otp_office.specs.Orders.{starts_in};
 ghost use Rattle.otp_office.specs.Flushes.{SentOrders, was_sent};
@@ -102,7 +101,10 @@ impl<N: SupNaming, B: Drop> Sup<N, B> {
             return Ok(TurnAnswer::Pending);
         }
         let answer = table.turn(rt, words, &self.inbox, sender, number, reading, told);
-        cut_where_full(table, &answer);
+        if was_full(&answer) {
+            // Such a turn left nothing to be sent.
+            let _ = table.cut();
+        }
         flush_all(table, words, &self.inbox, sender, port);
         table.keeps_rules();
         answer
@@ -343,18 +345,11 @@ impl<N: SupNaming, B: Drop> Unlocked<N, B> {
     }
 }
 
-/// Makes a checkpoint where a turn answered that the core is full. Such a turn left nothing to be sent.
-fn cut_where_full<N: SupNaming, B: Drop>(
-    table: &mut Table<N, B>,
-    said: &Result<TurnAnswer, TurnFault>,
-)
-    requires { said.now ≡ Ok answer.Full → table.old.office.outbox ≡ [] }
-    ensures cut { CutWhereFull said.now table.old table.new }
-    ensures taker { table.new.taker ≡ table.old.taker }
+/// Whether a turn with this answer found the core full.
+fn was_full(said: &Result<TurnAnswer, TurnFault>) -> bool
+    ensures { IsTrue result ↔ (said.now ≡ Ok answer.Full) }
 {
-    if let Ok(TurnAnswer::Full) = said {
-        let _ = table.cut();
-    }
+    matches!(said, Ok(TurnAnswer::Full))
 }
 
 fn was_sent(flushed: Flushed) -> bool
