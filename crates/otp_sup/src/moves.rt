@@ -68,7 +68,9 @@ pub(crate) fn happen<N: WordsNaming, B: Drop>(
     office.happen(words, reading, kind);
     let slot = slot_given(office, plan.free);
     move_bodies(bodies, &kind, &plan, slot, body);
-    let_go(bodies, office, &kind, plan.keeps_children);
+    if !lets_none_go(bodies, office, &kind, plan.keeps_children) {
+        let_go(bodies, office, &kind);
+    }
 }
 
 /// The body that the event brought goes where it belongs, and so does that of a call that was taken up.
@@ -133,16 +135,32 @@ fn take_up<B: Drop>(bodies: &mut Bodies<B>, is_taken_up: bool, slot: Option<usiz
     }
 }
 
-/// Bodies of children that are gone are whose they were before; at an opening all children are new. Where none can have gone, unless
-/// the supervisor has ended, no body is looked at.
-fn let_go<N: WordsNaming, B: Drop>(
-    bodies: &mut Bodies<B>,
+/// Whether no body is let go after the event: each stays where it is. Where no child can have gone, unless the supervisor has ended, no
+/// body is looked at. At an opening all children are new.
+fn lets_none_go<N: WordsNaming, B: Drop>(
+    bodies: &Bodies<B>,
     office: &Office<N>,
     kind: &Kind,
     keeps_children: bool,
-)
-    requires there { keeps_children ≡ true → is_over (state_of office.now.core).phase ≡ false → AreThere (state_of office.now.core).rows bodies.old.kept }
-    requires calls { keeps_children ≡ true → list_any is_with_call bodies.old.kept ≡ false }
+) -> bool
+    requires there { keeps_children ≡ true → is_over (state_of office.now.core).phase ≡ false → AreThere (state_of office.now.core).rows bodies.now.kept }
+    requires calls { keeps_children ≡ true → list_any is_with_call bodies.now.kept ≡ false }
+    ensures { IsTrue result → let_go (state_of office.now.core) kind.now bodies.now.kept ≡ bodies.now.kept }
+{
+    let rows = office.rows();
+    let is_any_waiting = office.core().has_waiting();
+    if let Kind::Opened(_) = kind {
+        false
+    } else if keeps_children && !office.has_ended() {
+        bodies.are_settled(rows, is_any_waiting);
+        true
+    } else {
+        bodies.is_settled(rows, is_any_waiting)
+    }
+}
+
+/// Bodies of children that are gone are whose they were before; at an opening all children are new.
+fn let_go<N: WordsNaming, B: Drop>(bodies: &mut Bodies<B>, office: &Office<N>, kind: &Kind)
     ensures { bodies.new.kept ≡ let_go (state_of office.now.core) kind.now bodies.old.kept }
 {
     let rows = office.rows();
@@ -150,8 +168,6 @@ fn let_go<N: WordsNaming, B: Drop>(
     if let Kind::Opened(_) = kind {
         bodies.settle(&[], is_any_waiting);
         bodies.open(rows);
-    } else if keeps_children && !office.has_ended() {
-        bodies.are_settled(rows, is_any_waiting);
     } else {
         bodies.settle(rows, is_any_waiting);
     }

@@ -13,28 +13,29 @@ use Rattle.otp_bodies.specs.Loose.{is_with_call}
 use Rattle.otp_bodies.specs.Bodies.{AreThere}
 use Rattle.otp_sup.proofs.moves.happen.Goals as goal
 
-pub returns-clause-bodies : goal.returns-clause-bodies
-returns-clause-bodies g c =
+-- bodies are let go
+pub returns-then-not-lets_none_go-clause-bodies : goal.returns-then-not-lets_none_go-clause-bodies
+returns-then-not-lets_none_go-clause-bodies g c =
     let s = state_of c.args.office.now.core in
     let later = state_of c.happen.new.self.core in
     c.let_go.ensures ∙ ap (λ (l : List Kept). let_go later c.args.kind l) (c.move_bodies.ensures s later.rows c.plan_of-plan.ensures c.slot_given-slot.ensures)
 
-pub returns-clause-count : goal.returns-clause-count
-returns-clause-count g c =
+pub returns-then-not-lets_none_go-clause-count : goal.returns-then-not-lets_none_go-clause-count
+returns-then-not-lets_none_go-clause-count g c =
     let s = state_of c.args.office.now.core in
     let later = state_of c.happen.new.self.core in
     ap (λ (l : List Kept). bodies_in l) (c.let_go.ensures ∙ ap (λ (l : List Kept). let_go later c.args.kind l) (c.move_bodies.ensures s later.rows c.plan_of-plan.ensures c.slot_given-slot.ensures))
     ∙ count_after s later c.args.kind c.args.bodies.now.kept
 
-pub returns-clause-calls : goal.returns-clause-calls
-returns-clause-calls g c = λ same.
+pub returns-then-not-lets_none_go-clause-calls : goal.returns-then-not-lets_none_go-clause-calls
+returns-then-not-lets_none_go-clause-calls g c = λ same.
     let s = state_of c.args.office.now.core in
     let later = state_of c.happen.new.self.core in
     ap (λ (l : List Kept). calls_waiting l) (c.let_go.ensures ∙ ap (λ (l : List Kept). let_go later c.args.kind l) (c.move_bodies.ensures s later.rows c.plan_of-plan.ensures c.slot_given-slot.ensures))
     ∙ calls_happened c.args.office.now c.happen.new.self c.args.reading c.args.kind c.args.bodies.now.kept c.runs_are_joined.ensures.one_more c.start_calls_wait.ensures c.happen.ensures same
 
-pub returns-clause-homes : goal.returns-clause-homes
-returns-clause-homes g c = λ same has.
+pub returns-then-not-lets_none_go-clause-homes : goal.returns-then-not-lets_none_go-clause-homes
+returns-then-not-lets_none_go-clause-homes g c = λ same has.
     let s = state_of c.args.office.now.core in
     let later = state_of c.happen.new.self.core in
     let is = c.let_go.ensures ∙ ap (λ (l : List Kept). let_go later c.args.kind l) (c.move_bodies.ensures s later.rows c.plan_of-plan.ensures c.slot_given-slot.ensures) in
@@ -54,8 +55,50 @@ returns-clause-homes g c = λ same has.
     let Has : List Kept → Type 0 = λ l. HasBodies c.happen.new.self l in
     subst Has (sym is) (bodies_happened laws c.args.office.now c.happen.new.self c.args.reading c.args.kind c.args.bodies.now.kept c.keeps_rules.ensures c.happen.ensures c.requires.outbox c.requires.over same has)
 
-pub let_go-requires : goal.let_go-requires
-let_go-requires g c =
+-- none is, so they are as if they had been
+pub returns-else-not-lets_none_go-clause-bodies : goal.returns-else-not-lets_none_go-clause-bodies
+returns-else-not-lets_none_go-clause-bodies g c =
+    let s = state_of c.args.office.now.core in
+    let later = state_of c.happen.new.self.core in
+    sym (c.lets_none_go.ensures c.if-not-lets_none_go.false) ∙ ap (λ (l : List Kept). let_go later c.args.kind l) (c.move_bodies.ensures s later.rows c.plan_of-plan.ensures c.slot_given-slot.ensures)
+
+pub returns-else-not-lets_none_go-clause-count : goal.returns-else-not-lets_none_go-clause-count
+returns-else-not-lets_none_go-clause-count g c =
+    let s = state_of c.args.office.now.core in
+    let later = state_of c.happen.new.self.core in
+    ap (λ (l : List Kept). bodies_in l) (sym (c.lets_none_go.ensures c.if-not-lets_none_go.false) ∙ ap (λ (l : List Kept). let_go later c.args.kind l) (c.move_bodies.ensures s later.rows c.plan_of-plan.ensures c.slot_given-slot.ensures))
+    ∙ count_after s later c.args.kind c.args.bodies.now.kept
+
+pub returns-else-not-lets_none_go-clause-calls : goal.returns-else-not-lets_none_go-clause-calls
+returns-else-not-lets_none_go-clause-calls g c = λ same.
+    let s = state_of c.args.office.now.core in
+    let later = state_of c.happen.new.self.core in
+    ap (λ (l : List Kept). calls_waiting l) (sym (c.lets_none_go.ensures c.if-not-lets_none_go.false) ∙ ap (λ (l : List Kept). let_go later c.args.kind l) (c.move_bodies.ensures s later.rows c.plan_of-plan.ensures c.slot_given-slot.ensures))
+    ∙ calls_happened c.args.office.now c.happen.new.self c.args.reading c.args.kind c.args.bodies.now.kept c.runs_are_joined.ensures.one_more c.start_calls_wait.ensures c.happen.ensures same
+
+pub returns-else-not-lets_none_go-clause-homes : goal.returns-else-not-lets_none_go-clause-homes
+returns-else-not-lets_none_go-clause-homes g c = λ same has.
+    let s = state_of c.args.office.now.core in
+    let later = state_of c.happen.new.self.core in
+    let is = sym (c.lets_none_go.ensures c.if-not-lets_none_go.false) ∙ ap (λ (l : List Kept). let_go later c.args.kind l) (c.move_bodies.ensures s later.rows c.plan_of-plan.ensures c.slot_given-slot.ensures) in
+    let laws : Laws = record {
+      goes_on = c.runs_are_joined.ensures.one_more;
+      homes = c.homes_are_kept.ensures.from_any;
+      stay = c.processes_stay.ensures.stay;
+      heard = c.ends_tell_started.ensures.heard;
+      started = c.ends_tell_started.ensures.started;
+      bare = c.ended_has_no_rows.ensures.from_empty;
+      named = c.orders_name_rows.ensures.from_empty;
+      owned = c.processes_are_owned.ensures.from_empty;
+      works = c.number_starts_work.ensures;
+      plan = c.step_keeps_plan.ensures;
+      lived = c.processes_lived.ensures.from_empty;
+    } in
+    let Has : List Kept → Type 0 = λ l. HasBodies c.happen.new.self l in
+    subst Has (sym is) (bodies_happened laws c.args.office.now c.happen.new.self c.args.reading c.args.kind c.args.bodies.now.kept c.keeps_rules.ensures c.happen.ensures c.requires.outbox c.requires.over same has)
+
+pub lets_none_go-requires : goal.lets_none_go-requires
+lets_none_go-requires g c =
     let s = state_of c.args.office.now.core in
     let later = state_of c.happen.new.self.core in
     record {
