@@ -16,8 +16,17 @@ started_again one two three a b c first second =
     let x = first.starts in let y = second.starts in
     record { starts = omega (arith, x, y); turns = second.turns ∙ first.turns }
 
+plus_none : (s : Shares) → s ≡ plus s (starts_of 0)
+plus_none s =
+    let starts : s.starts ≡ s.starts + 0 = omega arith in
+    let turns : s.turns ≡ s.turns + 0 = omega arith in
+    ap (λ (n : ℕ). record s { starts = n }) starts ∙ ap (λ (n : ℕ). record { starts = s.starts + 0; turns = n }) turns
+
 -- nothing but shares was given, and credited
 module _ {P : Type 0} where
+  pub gave_none : (t : TakerState P) → t ≡ gave (starts_of 0) t
+  gave_none t = ap (λ (s : Shares). record t { given = s }) (plus_none t.given)
+
   pub taken_only : (n : ℕ) (old new : TakerState P) → new ≡ gave (starts_of n) old → new ≡ record old { given = new.given }
   taken_only n old new is = is ∙ ap (λ (t : TakerState P). record old { given = t.given }) (sym is)
 

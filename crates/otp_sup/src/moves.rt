@@ -1,12 +1,12 @@
 //! Where bodies go: at an event, and when an order is sent.
-ghost use Rattle.std.specs.Prelude.{◌≡◌, ◌+◌, ◌++◌, ◌∷◌, ◌<◌, ◌≤◌, true, false, List, [], if◌then◌else◌, is_some, length, position, ℕ, IsSome, IsTrue, IfSome, MatchOption, None, Some};
+ghost use Rattle.std.specs.Prelude.{◌≡◌, ◌+◌, ◌++◌, ◌∷◌, ◌<◌, ◌≤◌, true, false, List, [], if◌then◌else◌, is_some, length, ℕ, IsTrue, IfSome, Some};
 ghost use Rattle.std.specs.List.{list_any};
 ghost use Rattle.otp_spec.specs.declared.limits.TheConstants.{MAX_READING};
 ghost use Rattle.otp_core.specs.View.{state_of};
 ghost use Rattle.otp_rules.specs.State.{State, is_over};
 ghost use Rattle.otp_rules.specs.Waits.{starts_waiting};
 ghost use Rattle.otp_table.specs.declared.row.Row.{Row};
-ghost use Rattle.otp_bodies.specs.Bodies.{AreThere, CanComeBack, bodies_in, calls_waiting, came_for, count_away, count_home, has_body, is_at_home, left_home, place_of_call, taken_up};
+ghost use Rattle.otp_bodies.specs.Bodies.{AreThere, CanComeBack, bodies_in, calls_waiting, came_for, count_away, count_home, place_of_call, taken_up};
 ghost use Rattle.otp_bodies.specs.Loose.{is_with_call};
 ghost use Rattle.otp_sup.specs.Moves.{IsPlan, NoneWaits, bodies_after, brings_body, given_among, let_go, moved};
 ghost use Rattle.otp_bodies.specs.declared.bodies.Kept.{Kept};
@@ -135,8 +135,8 @@ fn take_up<B: Drop>(bodies: &mut Bodies<B>, is_taken_up: bool, slot: Option<usiz
     }
 }
 
-/// Whether no body is let go after the event: each stays where it is. Where no child can have gone, unless the supervisor has ended, no
-/// body is looked at. At an opening all children are new.
+/// Whether no body is to be let go after the event, so that each stays where it is. Where no child can have gone, unless the
+/// supervisor has ended, no body is looked at. At an opening all children are new: then it isn't so.
 fn lets_none_go<N: WordsNaming, B: Drop>(
     bodies: &Bodies<B>,
     office: &Office<N>,
@@ -173,36 +173,17 @@ fn let_go<N: WordsNaming, B: Drop>(bodies: &mut Bodies<B>, office: &Office<N>, k
     }
 }
 
-/// The body at this place among the bodies leaves, with the process of the child in this slot.
-pub(crate) fn leave<B: Drop>(
-    bodies: &mut Bodies<B>,
-    slot: Option<usize>,
-    at: Option<usize>,
-) -> Option<B>
-    requires { MatchOption slot (at ≡ None) (λ k. at ≡ position (is_at_home k) bodies.old.kept) }
-    ensures kept { bodies.new.kept ≡ left_home slot bodies.old.kept }
-    ensures none { result ≡ None → bodies.new.kept ≡ bodies.old.kept }
-    ensures found { (k : ℕ) → slot ≡ Some k → has_body k bodies.old.kept ≡ true → IsSome result }
-    ensures back { IsSome result → CanComeBack slot at bodies.new.kept bodies.old.kept }
-    ensures count { bodies_in bodies.new.kept + one_if (is_some result) ≡ bodies_in bodies.old.kept }
-{
-    let slot = slot?;
-    let at = at?;
-    bodies.leave(at, slot)
-}
-
-/// What the port didn't take goes back.
+/// A body that left, and that the port didn't take, goes back to where it was.
 pub(crate) fn come_back<B: Drop>(
     bodies: &mut Bodies<B>,
     slot: Option<usize>,
     at: Option<usize>,
-    back: Option<B>,
+    body: B,
 )
-    requires { IsSome back → IfSome at (λ i. i < length bodies.old.kept) }
-    ensures none { back ≡ None → bodies.new.kept ≡ bodies.old.kept }
-    ensures back { (older : List Kept) → IsSome back → CanComeBack slot at bodies.old.kept older → bodies.new.kept ≡ older }
+    requires { IfSome at (λ i. i < length bodies.old.kept) }
+    ensures { (older : List Kept) → CanComeBack slot at bodies.old.kept older → bodies.new.kept ≡ older }
 {
-    if let (Some(slot), Some(at), Some(body)) = (slot, at, back) {
+    if let (Some(slot), Some(at)) = (slot, at) {
         bodies.come_back(at, slot, body);
     }
 }

@@ -1,4 +1,5 @@
 //! What lies under a supervisor's lock.
+ghost use Rattle.otp_bodies.specs.Letters.{one_if};
 ghost use Rattle.std.specs.Prelude.{◌≡◌, ◌∷◌, ◌+◌, ◌≤◌, ◌<◌, ◌↔◌, [], true, false, is_some, length, min, IfErr, IfOk, IsTrue, None, OnOk, Some, vec_capacity};
 ghost use Rattle.otp_inbox.specs.Tokens.{count_limit, no_shares};
 ghost use Rattle.std.specs.List.{list_any};
@@ -23,12 +24,12 @@ ghost use Rattle.otp_office.specs.Events.{IsRefusal, Readied};
 ghost use Rattle.otp_sup.specs.Turns.{Turned};
 
 use crate::cut::CutAnswer;
-use crate::moves::{come_back, happen, leave};
+use crate::moves::{come_back, happen};
 use crate::naming::SupNaming;
 use otp_bodies::{Bodies, Flushed, Letter, Message, Port, ToldEnd, keep_end};
 use otp_core::{CutFault, ReplyAnswer};
 use otp_counts::{CountsPass, Publisher};
-use otp_inbox::{Inbox, InboxNaming, Sender, Taker};
+use otp_inbox::{Inbox, Sender, Taker};
 use otp_office::{Office, TurnAnswer, TurnFault, answer_of};
 use otp_rules::{Kind, Reply};
 use otp_signals::{Signal, Words, WordsNaming};
@@ -290,11 +291,20 @@ impl<N: SupNaming, B: Drop> Table<N, B> {
     {
         self.office.keeps_rules();
         let slot = self.office.starting_slot();
-        let at = self.bodies.find_home(slot);
-        let body = leave(&mut self.bodies, slot, at);
+        let bodies = &mut self.bodies;
+        let at = bodies.find_home(slot);
+        let body = match (slot, at) {
+            (Some(slot), Some(at)) => bodies.leave(at, slot),
+            _ => None,
+        };
         let (flushed, back) = self.office.flush_one(words, body, port);
-        come_back(&mut self.bodies, slot, at, back);
-        credit_start(inbox, &mut self.taker, sender, flushed, slot);
+        if let Some(body) = back {
+            // The port didn't take it.
+            come_back(bodies, slot, at, body);
+        }
+        if is_start_sent(flushed, slot) {
+            inbox.credit(&mut self.taker, sender, 1, 0);
+        }
         flushed
     }
 
@@ -450,21 +460,9 @@ fn make_ready<N: WordsNaming, B: Drop>(
     office.prepare()
 }
 
-/// Credits a start, where the order that was sent was to start the child of this slot.
-fn credit_start<N: InboxNaming, B: Drop>(
-    inbox: &Inbox<N, Message, Letter<B>>,
-    taker: &mut Taker<N, Message, Letter<B>>,
-    sender: &mut Sender<N, Message, Letter<B>>,
-    flushed: Flushed,
-    slot: Option<usize>,
-)
-    requires inbox { taker.old.inbox ≡ inbox.now }
-    requires sender { sender.old.inbox ≡ inbox.now }
-    requires may_send { 0 < sender.old.parts }
-    ensures taker { taker.new ≡ gave (starts_of (starts_flushed flushed slot)) taker.old }
-    ensures sender { sender.new ≡ credited (starts_of (starts_flushed flushed slot)) sender.old }
+/// Whether an order was sent that starts the child of this slot.
+fn is_start_sent(flushed: Flushed, slot: Option<usize>) -> bool
+    ensures { starts_flushed flushed slot ≡ one_if result }
 {
-    if let (Flushed::Sent, Some(_)) = (flushed, slot) {
-        inbox.credit(taker, sender, 1, 0);
-    }
+    matches!((flushed, slot), (Flushed::Sent, Some(_)))
 }
