@@ -87,26 +87,19 @@ fn move_bodies<B: Drop>(
     ensures { (s : State) (rows : List Row) → IsPlan s kind.now plan.now → slot ≡ given_among plan.now.free rows → bodies.new.kept ≡ moved s rows kind.now bodies.old.kept }
 {
     match kind {
-        Kind::Took(Item::Note(_)) => come(bodies, plan.home, body),
+        Kind::Took(Item::Note(_)) => {
+            let Some(body) = body else {
+                return;
+            };
+            // Most often it is at the place of its slot in the list; no other is looked at then.
+            match plan.home {
+                Some(slot) if bodies.is_away_at(slot, slot) => bodies.come_back(slot, slot, body),
+                home => bodies.come(home, body),
+            }
+        }
         Kind::Took(Item::Call(call, _)) => bring(bodies, *call, plan.waits, slot, body),
         Kind::Resumed => take_up(bodies, plan.is_taken_up, slot),
         Kind::Opened(_) | Kind::Ticked | Kind::Stopped => {}
-    }
-}
-
-/// An end note brought this body, for the child in this slot, if there is one; another note none. Most often the body is at the
-/// place of its slot in the list; no other is looked at then.
-fn come<B: Drop>(bodies: &mut Bodies<B>, home: Option<usize>, body: Option<B>)
-    requires room { 0 < bodies.old.room }
-    requires one_body { (slot : ℕ) → count_home slot bodies.old.kept + count_away slot bodies.old.kept ≤ 1 }
-    ensures { bodies.new.kept ≡ (if is_some body then came_for home bodies.old.kept else bodies.old.kept) }
-{
-    let Some(body) = body else {
-        return;
-    };
-    match home {
-        Some(slot) if bodies.is_away_at(slot, slot) => bodies.come_back(slot, slot, body),
-        _ => bodies.come(home, body),
     }
 }
 
