@@ -1,5 +1,5 @@
 //! Which process has a hand's next turn.
-ghost use Rattle.std.specs.Prelude.{◌≡◌, ◌<◌, ◌≤◌, length, is_some, true, IfSome, IsTrue};
+ghost use Rattle.std.specs.Prelude.{◌≡◌, ◌<◌, ◌≤◌, length, is_some, true, None, IfSome, IsTrue};
 ghost use Rattle.otp_hand.specs.Standings.{standing_of};
 
 use crate::system::System;
@@ -32,7 +32,14 @@ impl<N: SupNaming, J: Drop, S: Drop> System<N, J, S> {
         if hand.runner.scheduler.share().ended >= SHARE_LIMIT {
             return false;
         }
-        self.find_waiting(hand, reading);
+        hand.runner.wake_called();
+        if hand.runner.turning.is_none() && hand.runner.resting.len() > 0 {
+            let (from, to) = hand.runner.resting.next_places();
+            self.wake_due(hand, from, to, reading);
+        }
+        if hand.runner.turning.is_none() && hand.runner.waiting.len() > 0 {
+            hand.runner.wake_told(&self.shared.words);
+        }
         if hand.runner.turning.is_none() {
             hand.runner.take_next();
         }
@@ -42,45 +49,17 @@ impl<N: SupNaming, J: Drop, S: Drop> System<N, J, S> {
         hand.runner.turning.is_some()
     }
 
-    /// One that waits and for which something has come, if it is found with few looks.
-    fn find_waiting(&self, hand: &mut Hand<N, J, S>, reading: u64)
-    where
-        N: RunNaming,
-        ensures unsent { hand.new.unsent ≡ hand.old.unsent }
-        ensures passes { hand.new.passes ≡ hand.old.passes }
-        ensures standing { standing_of hand.new ≡ standing_of hand.old }
-    {
-        if hand.runner.turning.is_some() {
-            return;
-        }
-        let called = hand.runner.resting.called_place();
-        hand.runner.wake(called);
-        if hand.runner.turning.is_some() {
-            return;
-        }
-        let (from, to) = hand.runner.resting.next_places();
-        let due = self.find_due(hand, from, to, reading);
-        hand.runner.wake(due);
-        if hand.runner.turning.is_some() {
-            return;
-        }
-        hand.runner.wake_told(&self.shared.words);
-    }
-
     /// One that waits and for which something has come, where the hand has nothing else to do.
     fn find_at_leisure(&self, hand: &mut Hand<N, J, S>, reading: u64)
     where
         N: RunNaming,
+        requires { hand.old.turning ≡ None }
         ensures unsent { hand.new.unsent ≡ hand.old.unsent }
         ensures passes { hand.new.passes ≡ hand.old.passes }
         ensures standing { standing_of hand.new ≡ standing_of hand.old }
     {
-        if hand.runner.turning.is_some() {
-            return;
-        }
         let all = hand.runner.resting.len();
-        let due = self.find_due(hand, 0, all, reading);
-        hand.runner.wake(due);
+        self.wake_due(hand, 0, all, reading);
         if hand.runner.turning.is_some() {
             return;
         }
@@ -88,25 +67,17 @@ impl<N: SupNaming, J: Drop, S: Drop> System<N, J, S> {
         hand.runner.wake_told(&self.shared.words);
     }
 
-    /// The first of the supervisors that wait at these places of the hand, for which something has come.
-    fn find_due(
-        &self,
-        hand: &mut Hand<N, J, S>,
-        from: usize,
-        to: usize,
-        reading: u64,
-    ) -> Option<usize>
+    /// Gives its turn to the first of the supervisors that wait at these places of the hand, for which something has come.
+    fn wake_due(&self, hand: &mut Hand<N, J, S>, from: usize, to: usize, reading: u64)
     where
         N: RunNaming,
-        requires { to ≤ length hand.old.resting }
-        ensures place { IfSome result (λ place. place < length hand.old.resting) }
-        ensures resting { hand.new.resting ≡ hand.old.resting }
-        ensures turning { hand.new.turning ≡ hand.old.turning }
+        requires free { hand.old.turning ≡ None }
+        requires there { to ≤ length hand.old.resting }
         ensures unsent { hand.new.unsent ≡ hand.old.unsent }
         ensures passes { hand.new.passes ≡ hand.old.passes }
         ensures standing { standing_of hand.new ≡ standing_of hand.old }
     {
-        find_due(
+        let due = find_due(
             &self.shared,
             &mut hand.runner.viewer,
             &mut hand.senders,
@@ -114,7 +85,8 @@ impl<N: SupNaming, J: Drop, S: Drop> System<N, J, S> {
             from,
             to,
             reading,
-        )
+        );
+        hand.runner.wake(due);
     }
 }
 
