@@ -4,6 +4,7 @@ ghost use Rattle.otp_hand.specs.Standings.{standing_of, standings};
 ghost use Rattle.otp_spec.specs.declared.limits.TheConstants.{MAX_READING};
 
 use crate::clock::Gate;
+use crate::listener::Nobody;
 use crate::meeting::Meeting;
 use crate::system::System;
 use otp_bridge::Subsystem;
@@ -16,8 +17,8 @@ use std::thread::Threads;
 /// The most hands that serve at once.
 pub const MAX_HANDS: usize = 8;
 
-/// Gives each hand so many turns, each hand in a thread of its own. Each turn begins with the gate's answer, which is
-/// the reading of the clock for it.
+/// Gives each hand so many turns, each hand in a thread of its own; one hand alone, in the thread that calls. Each turn begins with
+/// the gate's answer, which is the reading of the clock for it.
 ///
 /// A hand that finds nothing in a turn looks again as long as another hand may still do something, since that may give it something
 /// to do; meanwhile it uses up no turn. Where no hand has anything to do, the gate is told ([`Gate::idle`]), and the turn is over.
@@ -35,6 +36,62 @@ where
     R: Threads + Wait + Sync,
     G: Gate + Sync,
     // Each hand keeps its place among all hands, and its parts of the right to send.
+    ensures { standings hands.new ≡ standings hands.old }
+{
+    if hands.len() == 1 {
+        serve_alone(rt, system, &mut hands[0], gate, turns);
+    } else {
+        serve_all(rt, system, hands, gate, turns);
+    }
+}
+
+/// Gives a hand so many turns that has no other beside it.
+///
+/// After a search that gave nothing it doesn't search anew but where that may find something ([`Hand::may_find`]): a turn in which
+/// nothing is to be done costs little, though the clock goes on.
+fn serve_alone<N, J, S, R, G>(
+    rt: &R,
+    system: &System<N, J, S>,
+    hand: &mut Hand<N, J, S>,
+    gate: &G,
+    turns: u64,
+)
+where
+    N: TreeNaming,
+    J: Job,
+    S: Subsystem,
+    R: Wait,
+    G: Gate,
+    ensures { standing_of hand.new ≡ standing_of hand.old }
+{
+    let mut is_idle = false;
+    for _ in 0..turns {
+        let reading = gate.before_turn(0);
+        let searches = !is_idle || hand.may_find(reading);
+        let has_served = searches
+            && (system.turn_heard(rt, hand, reading, &Nobody)
+                || look_again(rt, system, hand, reading));
+        if !has_served {
+            gate.idle(0);
+        }
+        is_idle = !has_served;
+    }
+}
+
+/// Gives each of several hands so many turns.
+fn serve_all<N, J, S, R, G>(
+    rt: &R,
+    system: &System<N, J, S>,
+    hands: &mut [Hand<N, J, S>],
+    gate: &G,
+    turns: u64,
+)
+where
+    N: TreeNaming + Send + Sync,
+    J: Job + Send,
+    S: Subsystem + Send,
+    R: Threads + Wait + Sync,
+    G: Gate + Sync,
     ensures { standings hands.new ≡ standings hands.old }
 {
     let meeting = Meeting::of(hands.len());

@@ -2,7 +2,7 @@ use denote.Param.Send.{sendable}
 use Rattle.std.proofs.Common.{ap, sym, ◌∙◌}
 use Rattle.otp_hand.specs.Standings.{standing_of}
 use Rattle.otp_system.proofs.Alike.{alike}
-use Rattle.otp_system.proofs.pool.pool_run.Goals as goal
+use Rattle.otp_system.proofs.pool.serve_all.Goals as goal
 
 pub for_each_mut-requires-clause-accepts : goal.for_each_mut-requires-clause-accepts
 for_each_mut-requires-clause-accepts g c κs within = λ i p inside is. search sendable depth 30
