@@ -1,6 +1,5 @@
 //! What one thread needs to serve a tree.
-ghost use Rattle.std.specs.Prelude.{◌≡◌, ◌↔◌, ◌<◌, ◌≤◌, None, Some, is_some, true, IfNone, IfSome, length};
-ghost use Rattle.otp_spec.specs.declared.limits.TheConstants.{MAX_READING};
+ghost use Rattle.std.specs.Prelude.{◌≡◌, ◌↔◌, ◌<◌, None, Some, is_some, true, IfNone, IfSome, length};
 ghost use Rattle.otp_hand.specs.Readings.{HasRead};
 ghost use Rattle.otp_hand.specs.Standings.{standing_of};
 
@@ -11,12 +10,10 @@ use crate::senders::Senders;
 use otp_counts::CountsPass;
 use otp_job::Body;
 use otp_rules::CountsNow;
-use otp_signals::{Signal, Words};
-use otp_sup::{PlanNaming, Sup, TurnAnswer, TurnFault};
 use otp_wake::Post;
 use std::alloc::AllocError;
 use std::marker::Model;
-use std::sync::{Arc, Wait};
+use std::sync::Arc;
 
 /// What one thread needs to serve: what it runs processes with, a sender to each supervisor, and a pass to read the counts
 /// of each.
@@ -118,30 +115,6 @@ impl<N: TreeNaming, J: Drop, S: Drop> Hand<N, J, S> {
         ensures standing { standing_of self.new ≡ standing_of self.old }
     {
         self.runner.around.open_post(post)
-    }
-
-    /// A turn of the supervisor that runs in the process that it has out. Its sender to that supervisor is credited with what
-    /// was done.
-    pub fn turn_nested<R: Wait>(
-        &mut self,
-        rt: &R,
-        words: &Words<N>,
-        sup: &Sup<N, Body<J, S>>,
-        number: u64,
-        reading: u64,
-        told: Signal,
-    ) -> Result<TurnAnswer, TurnFault>
-    where
-        N: PlanNaming,
-        requires { reading ≤ MAX_READING }
-        ensures passes { self.new.passes ≡ self.old.passes }
-        ensures standing { standing_of self.new ≡ standing_of self.old }
-    {
-        if sup.inbox().number() >= self.senders.len() {
-            return Ok(TurnAnswer::Pending);
-        }
-        self.senders
-            .turn(rt, words, sup, &mut self.runner, number, reading, told)
     }
 
     /// The counts of the supervisor with this number, as it published them last. None where it has no pass for one.

@@ -81,7 +81,9 @@ impl<N: SupNaming, J: Job, S: Subsystem> System<N, J, S> {
             None => {
                 let before = hand.runner.waiting.len();
                 hand.runner.work_as_told(&self.shared.words, reading);
-                tell_of_wait(listener, parent, before, hand.runner.waiting.len());
+                if before < hand.runner.waiting.len() {
+                    listener.waits(parent);
+                }
             }
         }
         if self.send_unsent(rt, hand, listener) {
@@ -128,7 +130,15 @@ impl<N: SupNaming, J: Job, S: Subsystem> System<N, J, S> {
         let Some(sup) = self.sup(table) else {
             return;
         };
-        let answer = hand.turn_nested(rt, &self.shared.words, sup, number, reading, told);
+        // A hand of this tree has a sender to each supervisor; without one it can't serve it.
+        if sup.inbox().number() >= hand.senders.len() {
+            listener.served(table);
+            return;
+        }
+        let words = &self.shared.words;
+        let answer = hand
+            .senders
+            .turn(rt, words, sup, &mut hand.runner, number, reading, told);
         if answer == Ok(TurnAnswer::Quiet) {
             let due = sup.next_deadline(rt);
             hand.runner.rest(table, told, due);
@@ -136,8 +146,11 @@ impl<N: SupNaming, J: Job, S: Subsystem> System<N, J, S> {
             return;
         }
         listener.served(table);
-        let posted = hand.runner.around.take_posted();
-        hand.runner.waiting.notice_posted(posted);
+        // What is posted while nobody waits stays noted: those that wait later are then looked at in vain once.
+        if hand.runner.waiting.len() > 0 {
+            let posted = hand.runner.around.take_posted();
+            hand.runner.waiting.notice_posted(posted);
+        }
     }
 
     /// Sends the letter that a hand still has to send. False where it was refused again.
@@ -200,11 +213,4 @@ fn keep_unsent<J: Drop, S: Drop>(
         note,
     };
     put_into(place, Some(unsent));
-}
-
-/// Tells that a job waits, where more wait than before.
-fn tell_of_wait<L: Listener>(listener: &L, parent: usize, before: usize, now: usize) {
-    if before < now {
-        listener.waits(parent);
-    }
 }
