@@ -1,17 +1,50 @@
-//! Says where the proved library is: the folder that `OTP_LIBRARY` names, or `embed/out`, where `embed/check` puts it.
-use std::path::Path;
+//! Says where the library is: the folder that `OTP_LIBRARY` names, or `embed/out`, where `embed/build` puts the proved one. Where
+//! neither has it, the one without proofs is taken (`embed/build --unproved`), and that is said.
+use std::path::{Path, PathBuf};
+
+const LIBRARIES: [&str; 2] = ["otp_c", "libc_c"];
+
+fn file(folder: &Path, name: &str) -> PathBuf {
+    folder.join(format!("lib{name}.a"))
+}
+
+fn has_all(folder: &Path) -> bool {
+    LIBRARIES.iter().all(|name| file(folder, name).exists())
+}
+
+fn warn(text: &str) {
+    println!("cargo:warning={text}");
+}
 
 fn main() {
     let own = std::env::var("CARGO_MANIFEST_DIR").unwrap_or_default();
-    let folder = std::env::var("OTP_LIBRARY").unwrap_or_else(|_| format!("{own}/../out"));
-    for name in ["otp_c", "libc_c"] {
-        let file = Path::new(&folder).join(format!("lib{name}.a"));
-        if !file.exists() {
-            println!("cargo:warning={} is not there: embed/build makes it", file.display());
+    let proved = Path::new(&own).join("../out");
+    let unproved = proved.join("unproved");
+    let named = std::env::var_os("OTP_LIBRARY").map(PathBuf::from);
+    let folder = match named {
+        Some(folder) => folder,
+        None if has_all(&proved) => proved.clone(),
+        None if has_all(&unproved) => {
+            warn("the library isn't proved: it is that of embed/out/unproved (embed/build proves it)");
+            unproved.clone()
         }
-        println!("cargo:rerun-if-changed={}", file.display());
+        None => proved.clone(),
+    };
+    if !has_all(&folder) {
+        warn(&format!(
+            "{} has no libotp_c.a and liblibc_c.a: `embed/build` proves them, in half an hour, `embed/build --unproved` compiles them in \
+             two minutes; OTP_LIBRARY names another folder",
+            folder.display()
+        ));
+    }
+    for name in LIBRARIES {
+        println!("cargo:rerun-if-changed={}", file(&folder, name).display());
         println!("cargo:rustc-link-lib=static={name}");
     }
-    println!("cargo:rustc-link-search=native={folder}");
+    if folder == unproved {
+        // A proved one may come.
+        println!("cargo:rerun-if-changed={}", proved.display());
+    }
+    println!("cargo:rustc-link-search=native={}", folder.display());
     println!("cargo:rerun-if-env-changed=OTP_LIBRARY");
 }
