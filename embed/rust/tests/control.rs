@@ -2,7 +2,7 @@
 
 mod common;
 
-use common::daemon::{CONT, Daemon, KILL, PROGRAM, STOP, exists, new_folder, wait_until};
+use common::daemon::{CONT, Daemon, KILL, PROGRAM, STOP, can_be_another_user, exists, new_folder, wait_until};
 use std::fs;
 use std::io::{Read, Write};
 use std::os::unix::fs::PermissionsExt;
@@ -49,11 +49,31 @@ fn each_request_is_answered() {
     assert!(refused(&["start", "nobody/x"]).contains("no supervisor"));
     assert!(refused(&["start", "a/"]).contains("no such supervisor"));
     assert!(refused(&["start", "pool/w"]).contains("simple_one_for_one"));
+    // No process ends by being started.
+    assert_eq!(done(&["start", "pool/"]), "pool/: ok #7\n");
+    assert!(refused(&["start", "pool/#7"]).contains("pool/#7: a dynamic child is not started by its number"));
+    assert!(refused(&["restart", "pool/#7"]).contains("stop it, and start pool/"));
+    assert_eq!(done(&["which", "pool"]), "undefined,#7,worker,a\n");
     assert!(refused(&["nonsense"]).contains("there is no request nonsense"));
     assert!(done(&["tail", "3"]).lines().count() == 3);
     assert!(done(&["shutdown"]).contains("the tree has ended"));
     assert_eq!(daemon.wait(), 0);
     assert!(!exists(&daemon.folder.join("control/socket")));
+    daemon.replay();
+}
+
+#[test]
+fn a_temporary_child_is_not_restarted_and_gone_once_it_is_stopped() {
+    let tree = "[[child]]\nid = \"t\"\nstart = \"a\"\nrestart = \"temporary\"\n";
+    let mut daemon = Daemon::start(tree, COMMANDS);
+    daemon.wait_ready();
+    let (is_done, text) = daemon.ctl(&["restart", "t"]);
+    assert!(!is_done && text.contains("t is temporary"), "{text}");
+    assert_eq!(daemon.ctl(&["which"]), (true, "t,#1,worker,a\n".to_string()));
+    assert_eq!(daemon.ctl(&["stop", "t"]), (true, "t: ok; it was temporary, and is gone for good\n".to_string()));
+    let (is_done, text) = daemon.ctl(&["start", "t"]);
+    assert!(!is_done && text.contains("no such child"), "{text}");
+    assert_eq!(daemon.stop(), 0);
     daemon.replay();
 }
 
@@ -177,15 +197,12 @@ fn the_folder_is_the_owners_alone() {
 
 #[test]
 fn another_user_is_turned_away_also_where_the_modes_would_let_him_in() {
+    if !can_be_another_user() {
+        return;
+    }
     let mut daemon = Daemon::start(TREE, COMMANDS);
     daemon.wait_ready();
     let control = daemon.folder.join("control");
-    let is_root = fs::metadata("/proc/self").is_ok_and(|own| std::os::unix::fs::MetadataExt::uid(&own) == 0);
-    if !is_root {
-        assert!(std::env::var_os("OTP_EMBED_WHOLE").is_none(), "only root can act as another user");
-        println!("skipped: only root can act as another user");
-        return;
-    }
     fs::set_permissions(&control, fs::Permissions::from_mode(0o755)).unwrap();
     fs::set_permissions(control.join("socket"), fs::Permissions::from_mode(0o666)).unwrap();
     // The program is copied to where that user may read it, by a process of its own, as `write_program` has it.

@@ -42,6 +42,16 @@ pub struct Daemon {
     pub mark: String,
 }
 
+/// Whether another user can be tried. Where all has to be tried, it is no answer that he can't.
+pub fn can_be_another_user() -> bool {
+    let is_root = fs::metadata("/proc/self").is_ok_and(|own| std::os::unix::fs::MetadataExt::uid(&own) == 0);
+    if !is_root {
+        assert!(std::env::var_os("OTP_EMBED_WHOLE").is_none(), "only root can act as another user");
+        println!("skipped: only root can act as another user");
+    }
+    is_root
+}
+
 /// An empty folder.
 pub fn new_folder() -> PathBuf {
     let number = FOLDERS.fetch_add(1, Ordering::Relaxed);
@@ -84,6 +94,16 @@ impl Daemon {
         command.stdout(fs::File::create(folder.join("stdout")).unwrap());
         command.stderr(fs::File::create(folder.join("stderr")).unwrap());
         Daemon { child: command.spawn().unwrap(), folder, mark }
+    }
+
+    /// Runs the same files again once this daemon is dead, with a log of its own. What is seen as left is that of both.
+    pub fn start_again(&mut self, flags: &[&str]) {
+        self.wait();
+        fs::rename(self.folder.join("log"), self.folder.join("log.1")).unwrap();
+        let mut command = Command::new(PROGRAM);
+        command.args(["run", "tree.toml", "commands.toml"]).args(flags).current_dir(&self.folder);
+        command.env("OTP_TEST_MARK", &self.mark).stdin(Stdio::null());
+        self.child = command.spawn().unwrap();
     }
 
     pub fn pid(&self) -> i32 {

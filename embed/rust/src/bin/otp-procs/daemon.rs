@@ -3,6 +3,7 @@
 use crate::control::Control;
 use crate::live::Live;
 use crate::log::{Class, Log, Record};
+use crate::mark::Mark;
 use crate::os::{self, READABLE, Waited};
 use crate::plan::Plans;
 use crate::strays;
@@ -43,6 +44,15 @@ pub(crate) struct Waiter {
     pub then: Option<Told>,
     /// The path that was named.
     pub path: String,
+    /// What is said besides, if it is done.
+    pub more: &'static str,
+}
+
+impl Waiter {
+    /// A client that has named this path.
+    pub fn new(token: u64, path: &str) -> Self {
+        Waiter { token, call: 0, then: None, path: path.to_string(), more: "" }
+    }
 }
 
 /// Something that is to be told to the tree, with its line of the log.
@@ -65,6 +75,7 @@ pub(crate) struct Seen {
 pub struct Daemon {
     pub(crate) tree: Tree,
     pub(crate) plans: Plans,
+    pub(crate) mark: Mark,
     pub(crate) log: Log,
     pub(crate) control: Option<Control>,
     pub(crate) signals: OwnedFd,
@@ -83,7 +94,8 @@ pub struct Daemon {
     pub(crate) has_more_ends: bool,
     /// The reading at which a signal first asked for an end.
     pub(crate) asked: Option<u64>,
-    pub(crate) is_killing: bool,
+    /// All was killed, and is waited for until this reading.
+    pub(crate) kill_until: Option<u64>,
     pub(crate) paths: Vec<String>,
     pub(crate) seen: Vec<Seen>,
     pub(crate) end: Option<End>,
@@ -95,6 +107,7 @@ impl Daemon {
     pub fn new(
         mut tree: Tree,
         plans: Plans,
+        mark: Mark,
         log: Log,
         control: Option<Control>,
         signals: OwnedFd,
@@ -104,6 +117,7 @@ impl Daemon {
         Ok(Daemon {
             tree,
             plans,
+            mark,
             log,
             control,
             signals,
@@ -116,7 +130,7 @@ impl Daemon {
             until_end: Vec::new(),
             has_more_ends: false,
             asked: None,
-            is_killing: false,
+            kill_until: None,
             seen: vec![Seen::default(); paths.len()],
             paths,
             end: None,
@@ -126,8 +140,10 @@ impl Daemon {
 
     /// Runs the tree until its root has ended, and says how.
     pub fn run(mut self) -> Ended {
+        let swept = self.mark.end_left_behind();
+        self.tell_swept(&swept, "a daemon that was killed has left them");
         self.go_on();
-        while self.end.is_none() && !self.is_broken {
+        while self.end.is_none() && !self.is_broken && !self.gives_up() {
             self.tell_followers();
             let mut waited = vec![Waited::new(self.signals.as_raw_fd(), READABLE)];
             let clients = self.control.as_ref().map_or_else(Vec::new, |control| control.waited(self.now()));
@@ -182,7 +198,7 @@ impl Daemon {
         let clients = self.control.as_ref().and_then(|control| control.next_due(now));
         // A tree that had no memory would be asked in vain before that.
         let tree = if self.again.is_some() { self.again } else { self.tree.next_deadline() };
-        let due = [starts, clients, tree].into_iter().flatten().min()?;
+        let due = [starts, clients, tree, self.kill_until].into_iter().flatten().min()?;
         Some(Duration::from_millis(due).saturating_sub(self.begun.elapsed()))
     }
 
@@ -276,13 +292,12 @@ impl Daemon {
         for live in self.live.values() {
             let _ = os::signal_group(live.pid, os::SIGKILL);
         }
-        let strays = strays::kill_all();
-        if strays > 0 {
-            self.remark(Record::new(Class::Remark, "strays").number("killed", strays));
-        }
+        let swept = strays::end_children(self.kill_until.is_some());
+        self.tell_swept(&swept, "they had left the group of their child");
         let ended = match self.end {
-            None => Ended::Broken,
-            _ if self.is_killing => Ended::Killed,
+            _ if self.is_broken => Ended::Broken,
+            None => Ended::Killed,
+            Some(_) if self.kill_until.is_some() => Ended::Killed,
             Some(end) => match end.cause {
                 Cause::Asked => Ended::Asked,
                 Cause::Intensity => Ended::Intensity,

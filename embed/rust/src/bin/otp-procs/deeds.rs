@@ -1,15 +1,24 @@
 //! Carries out what the tree orders, and what clients ask for.
 
 use crate::daemon::{Daemon, Seen, Untold, Waiter};
+use crate::ends::refused;
 use crate::live::Live;
 use crate::log::{Class, Record};
 use crate::os;
-use crate::plan::{Ready, SignalTo};
+use crate::plan::Ready;
 use crate::request::{Request, request_of};
 use crate::spawn::{NotStarted, spawn};
 use crate::status;
 use crate::told::{CallKind, Told};
-use otp_embed::{Answer, Name, Note, Order, Phase, Process, Reason, Reply};
+use otp_embed::{Answer, Name, Note, Order, Phase, Process, Reason, Reply, Restart};
+
+/// What a client wants of a child.
+#[derive(Clone, Copy, Debug, PartialEq, Eq)]
+enum Wish {
+    Start,
+    Stop,
+    Restart,
+}
 
 impl Daemon {
     /// Carries out an order, and tells it to the log.
@@ -45,7 +54,7 @@ impl Daemon {
     fn start(&mut self, process: Process) {
         let path = self.path_of(&process);
         let spawned = match self.plans.get(process.start.as_str()).cloned() {
-            _ if self.is_killing => {
+            _ if self.kill_until.is_some() => {
                 let text = "all processes are being killed".to_string();
                 Err(NotStarted { reason: Reason::error("killing"), text })
             }
@@ -53,7 +62,7 @@ impl Daemon {
                 let text = format!("no table [{}] in the file of commands", process.start);
                 Err(NotStarted { reason: Reason::error("no_command"), text })
             }
-            Some(plan) => spawn(&plan, &path, process.number).map(|spawned| (spawned, plan)),
+            Some(plan) => spawn(&plan, &path, process.number, self.mark.value()).map(|spawned| (spawned, plan)),
         };
         let record = self.order("start", &process);
         match spawned {
@@ -80,12 +89,8 @@ impl Daemon {
         let mut record = self.order("ask", &process);
         if let Some(live) = self.live.get_mut(&process.number) {
             live.is_asked = true;
-            let (name, signal) = live.plan.signal;
-            let sent = match live.plan.signal_to {
-                SignalTo::Group => os::signal_group(live.pid, signal),
-                SignalTo::Process => os::signal_process(live.pid, signal),
-            };
-            record = record.text("signal", name).maybe("text", sent.err().map(|error| error.to_string()));
+            let sent = live.ask();
+            record = record.text("signal", live.plan.signal.0).maybe("text", sent.err().map(refused));
         }
         if let Some(deadline) = deadline {
             record = record.number("within_ms", deadline.saturating_sub(self.reading));
@@ -97,7 +102,7 @@ impl Daemon {
         let mut record = self.order("kill", &process);
         if let Some(live) = self.live.get(&process.number) {
             let sent = os::signal_group(live.pid, os::SIGKILL);
-            record = record.text("signal", "KILL").maybe("text", sent.err().map(|error| error.to_string()));
+            record = record.text("signal", "KILL").maybe("text", sent.err().map(refused));
         }
         self.remark(record);
     }
@@ -125,7 +130,7 @@ impl Daemon {
                 self.answer(waiter.token, Ok(&text));
             }
             (Answer::Count(counts), None) => self.answer(waiter.token, Ok(&counts.to_string())),
-            (_, None) => self.answer(waiter.token, Ok(&format!("{}: {answer}", waiter.path))),
+            (_, None) => self.answer(waiter.token, Ok(&format!("{}: {answer}{}", waiter.path, waiter.more))),
         }
     }
 
@@ -168,28 +173,27 @@ impl Daemon {
             Request::Which(path) => self.call_supervisor(token, &path, CallKind::Which),
             Request::Count(path) => self.call_supervisor(token, &path, CallKind::Count),
             Request::Start(path) if path.ends_with('/') => self.call_supervisor(token, &path, CallKind::StartDynamic),
-            Request::Start(path) => self.call_child(token, &path, CallKind::Restart, None),
-            Request::Stop(path) => self.call_child(token, &path, CallKind::Terminate, None),
-            Request::Restart(path) => self.call_child(token, &path, CallKind::Terminate, Some(CallKind::Restart)),
+            Request::Start(path) => self.call_child(token, &path, Wish::Start),
+            Request::Stop(path) => self.call_child(token, &path, Wish::Stop),
+            Request::Restart(path) => self.call_child(token, &path, Wish::Restart),
         }
     }
 
-    fn call(&mut self, token: u64, path: &str, told: Told, then: Option<Told>) {
-        let record = told.record(path);
-        let waiter = Waiter { token, call: 0, then, path: path.to_string() };
+    fn call(&mut self, told: Told, waiter: Waiter) {
+        let record = told.record(&waiter.path);
         self.untold.push_back(Untold { told, record, waiter: Some(waiter) });
         self.go_on();
     }
 
     fn call_supervisor(&mut self, token: u64, path: &str, kind: CallKind) {
         match self.paths.iter().position(|known| known == path.trim_start_matches('/')) {
-            Some(supervisor) => self.call(token, path, Told::Call(supervisor as u32, kind), None),
+            Some(supervisor) => self.call(Told::Call(supervisor as u32, kind), Waiter::new(token, path)),
             None => self.answer(token, Err(&format!("{path}: there is no such supervisor"))),
         }
     }
 
     /// Calls a child's supervisor, by the child's path: with its id, or with `#` and the number of a dynamic child.
-    fn call_child(&mut self, token: u64, path: &str, kind: fn(Name) -> CallKind, then: Option<fn(Name) -> CallKind>) {
+    fn call_child(&mut self, token: u64, path: &str, wish: Wish) {
         let (above, id) = path.rsplit_once('/').map_or(("", path), |(above, id)| (&path[..=above.len()], id));
         let Some(supervisor) = self.paths.iter().position(|known| known == above) else {
             return self.answer(token, Err(&format!("{path}: there is no supervisor {above}")));
@@ -197,16 +201,50 @@ impl Daemon {
         let supervisor = supervisor as u32;
         let number = id.strip_prefix('#').and_then(|number| number.parse().ok());
         match (number, Name::new(id)) {
-            (Some(number), _) if then.is_none() => {
-                self.call(token, path, Told::Call(supervisor, CallKind::TerminateProcess(number)), None);
+            (Some(number), _) if wish == Wish::Stop => {
+                let told = Told::Call(supervisor, CallKind::TerminateProcess(number));
+                self.call(told, Waiter::new(token, path));
             }
-            (None, Ok(id)) => {
-                let then = then.map(|kind| Told::Call(supervisor, kind(id)));
-                self.call(token, path, Told::Call(supervisor, kind(id)), then);
+            (Some(_), _) if wish == Wish::Start => {
+                let text =
+                    format!("{path}: a dynamic child is not started by its number; start {above} starts one more");
+                self.answer(token, Err(&text));
             }
-            (Some(_), _) => self.answer(token, Err("a dynamic child is not restarted: stop it, and start PATH/")),
+            (Some(_), _) => {
+                let text = format!("{path}: a dynamic child is not restarted: stop it, and start {above}");
+                self.answer(token, Err(&text));
+            }
+            (None, Ok(id)) => self.call_named(token, path, wish, (supervisor, id)),
             (None, Err(bad)) => self.answer(token, Err(&format!("{path}: {bad}"))),
         }
+    }
+
+    fn call_named(&mut self, token: u64, path: &str, wish: Wish, (supervisor, id): (u32, Name)) {
+        let is_temporary = self.is_temporary(supervisor, id);
+        let waiter = Waiter::new(token, path);
+        let (kind, waiter) = match wish {
+            Wish::Restart if is_temporary => {
+                let text = format!(
+                    "{path} is temporary: its supervisor forgets it at its end, so that nothing is left to be started"
+                );
+                return self.answer(token, Err(&format!("{text} again; a transient child can be restarted")));
+            }
+            Wish::Start => (CallKind::Restart(id), waiter),
+            Wish::Stop if is_temporary => {
+                (CallKind::Terminate(id), Waiter { more: "; it was temporary, and is gone for good", ..waiter })
+            }
+            Wish::Stop => (CallKind::Terminate(id), waiter),
+            Wish::Restart => {
+                let then = Some(Told::Call(supervisor, CallKind::Restart(id)));
+                (CallKind::Terminate(id), Waiter { then, ..waiter })
+            }
+        };
+        self.call(Told::Call(supervisor, kind), waiter);
+    }
+
+    fn is_temporary(&mut self, supervisor: u32, id: Name) -> bool {
+        let children = self.tree.children(supervisor).unwrap_or_default();
+        children.iter().any(|child| child.id == Some(id) && child.spec.restart == Restart::Temporary)
     }
 
     /// Tells the log of nested supervisors that were started or have ended, of which no order tells.

@@ -19,18 +19,19 @@ impl Daemon {
     /// Signals that were sent to the daemon.
     pub(crate) fn take_signals(&mut self) {
         while let Some(sent) = os::next_signal(&self.signals) {
-            let remark = |what| Record::new(Class::Remark, what).number("from_pid", u64::from(sent.pid));
+            let record = Record::new(Class::Remark, "signal").number("from_pid", u64::from(sent.pid));
+            let record = record.text("name", os::name_of(sent.signal));
             match sent.signal {
+                os::SIGCHLD => {}
                 os::SIGTERM | os::SIGINT => {
-                    let name = if sent.signal == os::SIGTERM { "TERM" } else { "INT" };
-                    self.remark(remark("signal").text("name", name));
+                    self.remark(record);
                     self.take_stop_signal();
                 }
                 os::SIGHUP => {
                     let done = self.reopen();
-                    self.remark(remark("signal").text("name", "HUP").text("text", done));
+                    self.remark(record.text("text", done));
                 }
-                _ => {}
+                _ => self.remark(record.text("text", "it says nothing to the daemon")),
             }
         }
         self.go_on();
@@ -66,19 +67,6 @@ impl Daemon {
     pub(crate) fn stop(&mut self) {
         self.push(Told::Stop, Told::Stop.record(""));
         self.go_on();
-    }
-
-    /// All processes are killed, and no other is started any more.
-    fn kill_all(&mut self) {
-        if !self.is_killing {
-            self.is_killing = true;
-            self.remark(
-                Record::new(Class::Remark, "killing").text("text", "a second signal: all processes are killed"),
-            );
-        }
-        for live in self.live.values() {
-            let _ = os::signal_group(live.pid, os::SIGKILL);
-        }
     }
 
     /// What control clients ask for.

@@ -6,11 +6,14 @@ mod client;
 mod control;
 mod daemon;
 mod deeds;
+mod ends;
 mod happenings;
 mod live;
 mod log;
+mod mark;
 mod os;
 mod plan;
+mod proc_files;
 mod program;
 mod replay;
 mod request;
@@ -24,6 +27,7 @@ mod words;
 use crate::control::Control;
 use crate::daemon::{Daemon, Ended};
 use crate::log::Log;
+use crate::mark::Mark;
 use crate::plan::{Plan, Plans};
 use crate::words::{Run, Words};
 use otp_embed::{Fault, Note, Order, Strategy, Tree};
@@ -153,12 +157,14 @@ fn run_tree(run: &Run) -> Result<Ended, Box<dyn Error>> {
     os::keep_descriptors()
         .map_err(|error| format!("/proc/self/fd can't be read, by which descriptors are kept: {error}"))?;
     let _reserved = os::reserve_descriptors().map_err(|error| format!("/dev/null can't be opened: {error}"))?;
-    let signals = os::signals_as_descriptor(&[os::SIGTERM, os::SIGINT, os::SIGHUP, os::SIGCHLD])
-        .map_err(|error| format!("there is no descriptor for signals: {error}"))?;
+    let signals =
+        os::signals_as_descriptor().map_err(|error| format!("there is no descriptor for signals: {error}"))?;
     os::adopt_orphans().map_err(|error| format!("orphans can't be adopted: {error}"))?;
     let control = run.control.as_deref().map(Control::open).transpose()?;
     let log =
         Log::open(run.log.as_deref(), run.is_json).map_err(|error| format!("the log can't be opened: {error}"))?;
-    let daemon = Daemon::new(tree, plans, log, control, signals)?;
+    let place = run.control.as_ref().unwrap_or(&run.tree);
+    let mark = Mark::new(place).map_err(|error| format!("{}: {error}", place.display()))?;
+    let daemon = Daemon::new(tree, plans, mark, log, control, signals)?;
     Ok(daemon.run())
 }

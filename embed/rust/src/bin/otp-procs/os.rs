@@ -25,6 +25,26 @@ pub const SIGKILL: i32 = 9;
 pub const SIGTERM: i32 = 15;
 /// A child has ended.
 pub const SIGCHLD: i32 = 17;
+/// Lets a process go on that stands still.
+pub const SIGCONT: i32 = 18;
+
+/// Signals that would end the daemon, and with it all processes, though nobody who sends one means that: rotation of a log, a
+/// file that may not grow, a power failure. Those of faults (as SEGV) and of Ctrl-Z stay as they are.
+const HARMLESS: [(c_int, &str); 10] = [
+    (3, "QUIT"),
+    (10, "USR1"),
+    (12, "USR2"),
+    (14, "ALRM"),
+    (16, "STKFLT"),
+    (24, "XCPU"),
+    (25, "XFSZ"),
+    (26, "VTALRM"),
+    (27, "PROF"),
+    (30, "PWR"),
+];
+/// `SIGIO` and the first of the realtime signals that the C library leaves to programs.
+const SIGIO: c_int = 29;
+const FIRST_REALTIME: c_int = 34;
 
 /// Something can be read, or a client waits.
 pub const READABLE: i16 = 1;
@@ -36,6 +56,7 @@ const HUNG_UP: i16 = 0x38;
 
 const SFD_FLAGS: c_int = 0o2_004_000; // non-blocking, closed on exec
 const SIG_DFL: usize = 0;
+const SIG_IGN: usize = 1;
 const LAST_SIGNAL: c_int = 64;
 const SIG_BLOCK: c_int = 0;
 const SIG_SETMASK: c_int = 2;
@@ -109,6 +130,7 @@ struct PeerUser {
 unsafe extern "C" {
     fn poll(fds: *mut Waited, count: u64, milliseconds: c_int) -> c_int;
     fn kill(pid: c_int, signal: c_int) -> c_int;
+    fn getpgid(pid: c_int) -> c_int;
     fn signal(signal: c_int, handler: usize) -> usize;
     fn sigemptyset(set: *mut SignalSet) -> c_int;
     fn sigaddset(set: *mut SignalSet, signal: c_int) -> c_int;
@@ -151,18 +173,34 @@ pub struct Sent {
     pub pid: u32,
 }
 
-/// Blocks the signals, and gives a descriptor from which they are read. Before any thread is started.
-pub fn signals_as_descriptor(signals: &[c_int]) -> io::Result<OwnedFd> {
-    let set = set_of(signals);
-    // SAFETY: `set` is initialised; the descriptor that comes back is nobody else's.
+/// Blocks the signals that would end the daemon or that it waits for, and gives a descriptor from which they are read. Before any
+/// thread is started.
+pub fn signals_as_descriptor() -> io::Result<OwnedFd> {
+    let mut signals = vec![SIGHUP, SIGINT, SIGTERM, SIGCHLD, SIGIO];
+    signals.extend(HARMLESS.iter().map(|(number, _)| *number));
+    signals.extend(FIRST_REALTIME..=LAST_SIGNAL);
+    let all = set_of(&signals);
+    // SAFETY: the sets are initialised; the descriptor that comes back is nobody else's.
     unsafe {
-        // Whether a signal is ignored is inherited. Where SIGCHLD is, the system itself reaps the children; and one that is
-        // ignored comes by no descriptor. INT and HUP stay as they are: a shell ignores INT for what it runs in the background.
+        checked(sigprocmask(SIG_BLOCK, &raw const all, std::ptr::null_mut()))?;
+        // Where SIGCHLD is ignored, as it may be inherited, the system itself reaps the children.
         signal(SIGCHLD, SIG_DFL);
-        signal(SIGTERM, SIG_DFL);
-        checked(sigprocmask(SIG_BLOCK, &raw const set, std::ptr::null_mut()))?;
-        Ok(OwnedFd::from_raw_fd(checked(signalfd(-1, &raw const set, SFD_FLAGS))?))
+        // A shell ignores INT for what it runs in the background: Ctrl-C is meant for others then. One that is blocked comes by
+        // the descriptor though it is ignored, so it is left out. HUP is taken always: it ends nothing here.
+        if signal(SIGINT, SIG_DFL) == SIG_IGN {
+            signal(SIGINT, SIG_IGN);
+            signals.retain(|&number| number != SIGINT);
+        }
+        let taken = set_of(&signals);
+        Ok(OwnedFd::from_raw_fd(checked(signalfd(-1, &raw const taken, SFD_FLAGS))?))
     }
+}
+
+/// The name of a signal that the daemon blocks, as `USR1`; a realtime one has its number in the place of a name.
+pub fn name_of(signal: i32) -> String {
+    let own = [(SIGHUP, "HUP"), (SIGINT, "INT"), (SIGTERM, "TERM"), (SIGCHLD, "CHLD"), (SIGIO, "IO")];
+    let found = own.iter().chain(&HARMLESS).find(|(number, _)| *number == signal);
+    found.map_or_else(|| signal.to_string(), |(_, name)| (*name).to_string())
 }
 
 /// The next signal that was sent, if there is one.
@@ -228,12 +266,18 @@ pub fn signal_process(pid: i32, signal: i32) -> io::Result<()> {
     send(pid.max(1), signal)
 }
 
-/// Sends a signal to all of a process group. The group of number 1 or less is none.
+/// Sends a signal to all of the process group that a child has led from its start, and to the child itself where it has left
+/// that. The child was not reaped. The group of number 1 or less is none.
 pub fn signal_group(leader: i32, signal: i32) -> io::Result<()> {
     if leader <= 1 {
         return Err(io::Error::from_raw_os_error(EPERM));
     }
-    send(-leader, signal)
+    let group = send(-leader, signal);
+    // SAFETY: no memory is handed over.
+    let is_member = unsafe { getpgid(leader) } == leader;
+    // A group takes a signal where one of it may be signalled. Signal 0 asks whether the leader may be, and sends nothing.
+    let alone = send(leader, if is_member { 0 } else { signal });
+    group.and(alone)
 }
 
 /// Whose parent has ended becomes a child of this process, if it descends from it.

@@ -1,9 +1,11 @@
 //! Starts a process as its plan says.
 
+use crate::mark;
 use crate::os;
 use crate::plan::{Output, Plan, Ready};
 use crate::program;
 use otp_embed::Reason;
+use std::ffi::OsStr;
 use std::fs::File;
 use std::io::{self, PipeReader};
 use std::os::fd::{AsFd, AsRawFd};
@@ -37,13 +39,14 @@ impl NotStarted {
     }
 }
 
-/// Starts the process of a child, which finds its path and its number among its variables.
-pub fn spawn(plan: &Plan, path: &str, number: u64) -> Result<Spawned, NotStarted> {
+/// Starts the process of a child, which finds its path, its number and the mark of its run among its variables.
+pub fn spawn(plan: &Plan, path: &str, number: u64, mark: &OsStr) -> Result<Spawned, NotStarted> {
     if let Some(folder) = plan.folder.as_ref().filter(|folder| !folder.is_dir()) {
         let text = format!("there is no folder {}", folder.display());
         return Err(NotStarted::new("no_folder", text));
     }
     let mut command = command_of(plan, path, number);
+    command.env(mark::VARIABLE, mark);
     let output = give_output(plan, &mut command)?;
     let (notify, told) = if let Ready::Notify(to) = plan.ready {
         let (mine, theirs) = pipe()?;

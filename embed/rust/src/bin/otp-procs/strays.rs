@@ -1,47 +1,65 @@
-//! Descendants that have left the group of the child that started them. The daemon adopts them once their parent has ended.
+//! Processes that nobody waits for any more: descendants that have left the group of the child that started them, which the
+//! daemon adopts once their parent has ended; and what a daemon that was killed has left.
 
 use crate::os;
-use std::fs;
+use crate::proc_files::{self, Process};
+use std::collections::BTreeMap;
 use std::thread;
-use std::time::Duration;
+use std::time::{Duration, Instant};
 
-/// So often it is looked whether they are gone, with a hundredth of a second between.
-const LOOKS: u32 = 200;
+/// So much time is between two looks whether they are gone.
+const PAUSE: Duration = Duration::from_millis(10);
+/// What was killed is given up after so long.
+const LAST: Duration = Duration::from_secs(2);
 
-/// The children of this process, by their numbers.
-fn children() -> Vec<i32> {
-    let own = std::process::id();
-    let Ok(folder) = fs::read_dir("/proc") else {
-        return Vec::new();
-    };
-    let is_own = |pid: &i32| {
-        let stat = fs::read_to_string(format!("/proc/{pid}/stat")).unwrap_or_default();
-        // Behind the name, which may have any bytes, stand the state and the parent.
-        let mut fields = stat.rsplit_once(')').map_or("", |(_, rest)| rest).split_ascii_whitespace();
-        fields.nth(1).and_then(|parent| parent.parse().ok()) == Some(own)
-    };
-    folder.filter_map(|entry| entry.ok()?.file_name().to_str()?.parse().ok()).filter(is_own).collect()
+/// What was found and ended.
+#[derive(Debug, Default, PartialEq, Eq)]
+pub struct Swept {
+    /// So many were asked to end or killed, and have ended. Those that were dying already aren't counted.
+    pub ended: u64,
+    /// These the system doesn't let end.
+    pub left: Vec<i32>,
 }
 
-/// Kills all children of this process and reaps them, and those that come to it by their end, until none is left. Says how
-/// many were killed. One that the system doesn't let end is given up after two seconds.
-pub fn kill_all() -> u64 {
-    let mut killed = Vec::new();
-    for _ in 0..LOOKS {
+/// Ends all children of this process and reaps them, and those that come to it by their end, until none is left. Each has a second
+/// to end by itself, or none where there is no time.
+pub fn end_children(is_hurried: bool) -> Swept {
+    let find = || {
         while let Some(pid) = os::ended_child() {
             os::reap(pid);
         }
-        let left = children();
-        if left.is_empty() {
-            break;
+        proc_files::children()
+    };
+    end_all(find, Duration::from_secs(u64::from(!is_hurried)))
+}
+
+/// Ends all that is found, until nothing is. Each is asked to end when it is seen first; all are killed once this time is over.
+/// What the system doesn't let end then is given up two seconds later.
+pub fn end_all(find: impl Fn() -> Vec<Process>, patience: Duration) -> Swept {
+    let mut seen: BTreeMap<i32, Process> = BTreeMap::new();
+    let begun = Instant::now();
+    let mut killed: Option<Instant> = None;
+    let left = loop {
+        let found = find();
+        if found.is_empty() || killed.is_some_and(|killed| killed.elapsed() >= LAST) {
+            break found;
         }
-        for pid in left {
-            let _ = os::signal_process(pid, os::SIGKILL);
-            if !killed.contains(&pid) {
-                killed.push(pid);
+        if killed.is_none() && begun.elapsed() >= patience {
+            killed = Some(Instant::now());
+        }
+        for process in found {
+            let is_new = !seen.contains_key(&process.pid);
+            seen.entry(process.pid).or_insert(process);
+            if killed.is_some() {
+                let _ = os::signal_process(process.pid, os::SIGKILL);
+            } else if is_new {
+                let _ = os::signal_process(process.pid, os::SIGTERM);
+                let _ = os::signal_process(process.pid, os::SIGCONT);
             }
         }
-        thread::sleep(Duration::from_millis(10));
-    }
-    killed.len() as u64
+        thread::sleep(PAUSE);
+    };
+    let left: Vec<i32> = left.iter().map(|process| process.pid).collect();
+    let ended = seen.values().filter(|process| !process.is_dying && !left.contains(&process.pid)).count();
+    Swept { ended: ended as u64, left }
 }
