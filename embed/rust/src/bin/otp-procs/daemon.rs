@@ -1,6 +1,7 @@
 //! The daemon: it sleeps until something happens or is due, tells the tree, and carries out what the tree orders.
 
 use crate::control::Control;
+use crate::counted::Counted;
 use crate::live::Live;
 use crate::log::{Class, Log, Record};
 use crate::mark::Mark;
@@ -9,12 +10,14 @@ use crate::plan::Plans;
 use crate::strays;
 use crate::told::Told;
 use otp_embed::{Cause, End, Fault, Tree};
-use std::collections::{BTreeMap, VecDeque};
+use std::collections::{BTreeMap, BTreeSet, VecDeque};
 use std::os::fd::{AsRawFd, OwnedFd};
 use std::time::{Duration, Instant};
 
 /// After so many milliseconds the tree is told again what it had no memory for.
 const AGAIN: u64 = 100;
+/// The clock is read anew where a turn has lasted for so many milliseconds, as many starts make it.
+const STALE: u64 = 100;
 
 /// How the daemon has ended; the number is its exit status.
 #[derive(Clone, Copy, Debug, PartialEq, Eq)]
@@ -73,17 +76,25 @@ pub(crate) struct Seen {
 
 /// The daemon.
 pub struct Daemon {
-    pub(crate) tree: Tree,
+    pub(crate) tree: Counted,
     pub(crate) plans: Plans,
     pub(crate) mark: Mark,
     pub(crate) log: Log,
     pub(crate) control: Option<Control>,
     pub(crate) signals: OwnedFd,
     begun: Instant,
-    /// The reading of the clock that the tree was told last: milliseconds since the daemon began.
+    /// The reading of the clock in this turn: milliseconds since the daemon began.
     pub(crate) reading: u64,
+    /// The reading that the tree was told last.
+    told: u64,
+    /// From this reading on the tree may give orders, if it is told nothing before.
+    orders_due: u64,
+    /// That is right, and not only a lower bound.
+    is_due_known: bool,
     /// By the tree's numbers.
     pub(crate) live: BTreeMap<u64, Live>,
+    /// The tree's numbers by those of the system.
+    pub(crate) numbers: BTreeMap<i32, u64>,
     pub(crate) untold: VecDeque<Untold>,
     /// Nothing is told before this reading, since memory was refused.
     again: Option<u64>,
@@ -98,6 +109,10 @@ pub struct Daemon {
     pub(crate) kill_until: Option<u64>,
     pub(crate) paths: Vec<String>,
     pub(crate) seen: Vec<Seen>,
+    /// Of each supervisor those that are its children.
+    pub(crate) nested: Vec<Vec<u32>>,
+    /// Supervisors that were told something, or have ordered something, since nested ones were looked at.
+    pub(crate) touched: BTreeSet<u32>,
     pub(crate) end: Option<End>,
     is_broken: bool,
 }
@@ -114,8 +129,13 @@ impl Daemon {
     ) -> Result<Self, Fault> {
         let count = tree.supervisors();
         let paths = (0..count).map(|number| tree.path_of(number)).collect::<Result<Vec<_>, _>>()?;
+        let mut nested = vec![Vec::new(); paths.len()];
+        for number in 1..count {
+            let parent = tree.supervisor(number)?.parent;
+            nested[parent as usize].push(number);
+        }
         Ok(Daemon {
-            tree,
+            tree: tree.into(),
             plans,
             mark,
             log,
@@ -123,7 +143,11 @@ impl Daemon {
             signals,
             begun: Instant::now(),
             reading: 0,
+            told: 0,
+            orders_due: 0,
+            is_due_known: false,
             live: BTreeMap::new(),
+            numbers: BTreeMap::new(),
             untold: VecDeque::new(),
             again: None,
             waiters: Vec::new(),
@@ -133,6 +157,8 @@ impl Daemon {
             kill_until: None,
             seen: vec![Seen::default(); paths.len()],
             paths,
+            nested,
+            touched: BTreeSet::new(),
             end: None,
             is_broken: false,
         })
@@ -162,34 +188,51 @@ impl Daemon {
                 self.remark(Record::new(Class::Remark, "again").number("after_ms", AGAIN).text("text", text));
                 std::thread::sleep(Duration::from_millis(AGAIN));
             }
-            self.read_clock();
-            self.go_on();
-            self.take_signals();
-            self.take_requests(&waited[1..after_clients]);
-            for (number, _) in tells.iter().zip(&waited[after_clients..]).filter(|(_, seen)| seen.is_seen()) {
-                self.read_output(*number);
-            }
-            self.take_ends();
-            self.take_dues();
+            let telling = tells.iter().zip(&waited[after_clients..]).filter(|(_, seen)| seen.is_seen());
+            let telling: Vec<u64> = telling.map(|(number, _)| *number).collect();
+            self.turn(&waited[1..after_clients], &telling);
         }
         self.finish()
+    }
+
+    /// Does what is due, and takes what has happened, at one reading of the clock: what clients say, and what these processes do.
+    pub(crate) fn turn(&mut self, clients: &[Waited], telling: &[u64]) {
+        self.reading = self.reading.max(self.now());
+        self.go_on();
+        self.take_signals();
+        self.take_requests(clients);
+        for number in telling {
+            self.read_output(*number);
+        }
+        self.take_ends();
+        self.take_dues();
     }
 
     pub(crate) fn now(&self) -> u64 {
         u64::try_from(self.begun.elapsed().as_millis()).unwrap_or(u64::MAX)
     }
 
-    /// The tree is told the time.
-    fn read_clock(&mut self) {
-        let now = self.now();
-        match self.tree.tick(now) {
-            Ok(()) => self.reading = self.reading.max(now),
-            Err(fault) => self.fail(fault),
+    /// The tree is told the time, if that has gone on.
+    pub(crate) fn tell_time(&mut self) {
+        if self.told < self.reading {
+            match self.tree.tick(self.reading) {
+                Ok(()) => self.told = self.reading,
+                Err(fault) => self.fail(fault),
+            }
         }
     }
 
+    /// The reading at which the tree may have something to order. It is asked only where it was told something since.
+    fn tree_due(&mut self) -> Option<u64> {
+        if !self.is_due_known {
+            self.orders_due = self.tree.next_deadline().unwrap_or(u64::MAX);
+            self.is_due_known = true;
+        }
+        (self.orders_due < u64::MAX).then_some(self.orders_due)
+    }
+
     /// How long may be slept: until the first deadline of the tree, of a start or of a client.
-    fn time_left(&mut self) -> Option<Duration> {
+    pub(crate) fn time_left(&mut self) -> Option<Duration> {
         if self.has_more_ends {
             return Some(Duration::ZERO);
         }
@@ -197,7 +240,7 @@ impl Daemon {
         let starts = self.live.values().filter_map(Live::due).min();
         let clients = self.control.as_ref().and_then(|control| control.next_due(now));
         // A tree that had no memory would be asked in vain before that.
-        let tree = if self.again.is_some() { self.again } else { self.tree.next_deadline() };
+        let tree = if self.again.is_some() { self.again } else { self.tree_due() };
         let due = [starts, clients, tree, self.kill_until].into_iter().flatten().min()?;
         Some(Duration::from_millis(due).saturating_sub(self.begun.elapsed()))
     }
@@ -217,19 +260,26 @@ impl Daemon {
         self.untold.push_back(Untold { told, record, waiter: None });
     }
 
-    /// Tells the tree what is untold, and carries out all orders, until nothing is left.
+    /// Tells the tree what is untold, and carries out all orders, until nothing is left. The tree isn't called where there is
+    /// nothing to tell, and nothing due.
     pub(crate) fn go_on(&mut self) {
         if self.again.is_some_and(|again| self.now() < again) {
             return;
         }
         self.again = None;
         loop {
+            let now = self.now();
+            if now >= self.reading.saturating_add(STALE) {
+                self.reading = now;
+            }
             // What is due by now comes before what is told now: so a log can be played again from its lines alone.
-            self.read_clock();
-            if !self.take_orders() || self.end.is_some() {
+            if (self.orders_due <= self.reading && !self.take_orders()) || self.end.is_some() {
                 return;
             }
             let Some(untold) = self.untold.pop_front() else { break };
+            self.tell_time();
+            self.touched.insert(untold.told.supervisor());
+            (self.orders_due, self.is_due_known) = (0, false);
             match untold.told.tell(&mut self.tree) {
                 Ok(call) => {
                     self.log.tell(self.reading, &untold.record);
@@ -254,10 +304,14 @@ impl Daemon {
 
     /// Whether all orders were taken.
     fn take_orders(&mut self) -> bool {
+        self.tell_time();
         loop {
             match self.tree.next_order() {
                 Ok(Some(order)) => self.carry_out(order),
-                Ok(None) => return true,
+                Ok(None) => {
+                    (self.orders_due, self.is_due_known) = (self.reading.saturating_add(1), false);
+                    return true;
+                }
                 Err(fault) => {
                     self.wait_for_memory(fault);
                     return false;

@@ -10,7 +10,8 @@ use crate::request::{Request, request_of};
 use crate::spawn::{NotStarted, spawn};
 use crate::status;
 use crate::told::{CallKind, Told};
-use otp_embed::{Answer, Name, Note, Order, Phase, Process, Reason, Reply, Restart};
+use otp_embed::{Answer, Name, Note, Order, Phase, Process, Reason, Reply, Restart, Supervisor};
+use std::collections::BTreeSet;
 
 /// What a client wants of a child.
 #[derive(Clone, Copy, Debug, PartialEq, Eq)]
@@ -46,8 +47,14 @@ impl Daemon {
         }
     }
 
-    fn order(&self, what: &'static str, process: &Process) -> Record {
-        let record = Record::new(Class::Order, what).text("path", self.path_of(process));
+    /// The line of an order for a process, which has its path where it runs.
+    fn order(&mut self, what: &'static str, process: &Process) -> Record {
+        self.touched.insert(process.supervisor);
+        let path = match self.live.get(&process.number) {
+            Some(live) => live.path.clone(),
+            None => self.path_of(process),
+        };
+        let record = Record::new(Class::Order, what).text("path", path);
         record.number("number", process.number).number("supervisor", u64::from(process.supervisor))
     }
 
@@ -68,8 +75,9 @@ impl Daemon {
         match spawned {
             Ok((spawned, plan)) => {
                 let pid = spawned.pid;
+                self.numbers.insert(pid, process.number);
                 let is_up = plan.ready == Ready::Start;
-                let live = Live::new(process, path, plan, spawned, self.reading);
+                let live = Live::new(process, path, plan, spawned, self.now());
                 self.live.insert(process.number, live);
                 self.remark(record.number("pid", pid as u64));
                 if is_up {
@@ -151,6 +159,7 @@ impl Daemon {
         self.remark(Record::new(Class::Remark, "asked").text("line", line));
         match request {
             Request::Status(is_json) => {
+                self.tell_time();
                 let text = if is_json { status::as_json(self) } else { status::as_text(self) };
                 self.answer(token, Ok(&text));
             }
@@ -247,28 +256,37 @@ impl Daemon {
         children.iter().any(|child| child.id == Some(id) && child.spec.restart == Restart::Temporary)
     }
 
-    /// Tells the log of nested supervisors that were started or have ended, of which no order tells.
+    /// How a nested supervisor is seen now, if it was started or has ended since it was last looked at.
+    fn seen_anew(&mut self, number: u32) -> Option<(Seen, Supervisor)> {
+        let now = self.tree.supervisor(number).ok()?;
+        let seen = Seen { starts: now.starts, has_ended: now.phase == Phase::Ended };
+        (seen != self.seen[number as usize]).then_some((seen, now))
+    }
+
+    /// Tells the log of nested supervisors that were started or have ended, of which no order tells. Whatever a supervisor does to
+    /// others it does to its children, unless it ends. So all are looked at only where one that was touched, or a child of it, has
+    /// changed.
     pub(crate) fn look_at_supervisors(&mut self) {
-        for number in 1..self.paths.len() {
-            let Ok(now) = self.tree.supervisor(number as u32) else {
-                continue;
-            };
-            let seen = Seen { starts: now.starts, has_ended: now.phase == Phase::Ended };
-            let before = std::mem::replace(&mut self.seen[number], seen);
-            if before == seen {
-                continue;
-            }
-            let what = match (seen.starts > before.starts, before.starts) {
-                (true, 0) => "opened",
-                (true, _) => "anew",
-                (false, _) => "closed",
-            };
-            let mut line = Record::new(Class::Remark, what).text("path", self.paths[number].as_str());
-            if let Some(process) = now.process {
-                line = line.number("number", process);
-            }
-            let line = line.number("starts", seen.starts).maybe("cause", now.cause.map(otp_embed::EndCause::as_str));
-            self.remark(line);
+        let touched = std::mem::take(&mut self.touched);
+        let below = touched.iter().flat_map(|&number| self.nested[number as usize].iter().copied());
+        let near: BTreeSet<u32> = touched.iter().copied().chain(below).filter(|&number| number > 0).collect();
+        if near.into_iter().any(|number| self.seen_anew(number).is_some()) {
+            (1..self.paths.len() as u32).for_each(|number| self.tell_supervisor(number));
         }
+    }
+
+    fn tell_supervisor(&mut self, number: u32) {
+        let Some((seen, now)) = self.seen_anew(number) else { return };
+        let before = std::mem::replace(&mut self.seen[number as usize], seen);
+        let what = match (seen.starts > before.starts, before.starts) {
+            (true, 0) => "opened",
+            (true, _) => "anew",
+            (false, _) => "closed",
+        };
+        let mut line = Record::new(Class::Remark, what).text("path", self.paths[number as usize].as_str());
+        if let Some(process) = now.process {
+            line = line.number("number", process);
+        }
+        self.remark(line.number("starts", seen.starts).maybe("cause", now.cause.map(otp_embed::EndCause::as_str)));
     }
 }

@@ -130,7 +130,7 @@ impl Daemon {
         self.has_more_ends = false;
         for _ in 0..ENDS {
             let Some(pid) = os::ended_child() else { return };
-            let number = self.live.iter().find(|(_, live)| live.pid == pid).map(|(number, _)| *number);
+            let number = self.numbers.get(&pid).copied();
             if let Some(number) = number {
                 // Until it is reaped its number is its own, so this reaches nobody else.
                 let _ = os::signal_group(pid, os::SIGKILL);
@@ -146,6 +146,7 @@ impl Daemon {
     }
 
     fn take_end(&mut self, number: u64, pid: i32, status: ExitStatus) {
+        self.numbers.remove(&pid);
         let Some(live) = self.live.remove(&number) else {
             return;
         };

@@ -4,6 +4,7 @@
 
 mod client;
 mod control;
+mod counted;
 mod daemon;
 mod deeds;
 mod ends;

@@ -71,6 +71,14 @@ pub enum Told {
 }
 
 impl Told {
+    /// The supervisor that is told.
+    pub fn supervisor(&self) -> u32 {
+        match *self {
+            Told::Note(supervisor, _) | Told::Call(supervisor, _) => supervisor,
+            Told::Stop => 0,
+        }
+    }
+
     /// Tells it; the answer is the number of a call.
     pub fn tell(&self, tree: &mut Tree) -> Result<Option<u64>, Fault> {
         match *self {
