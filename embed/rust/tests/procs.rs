@@ -328,9 +328,11 @@ fn a_second_signal_kills() {
 
 #[test]
 fn a_second_signal_ends_starts_that_never_tell() {
-    let commands = "[a]\ncommand = ['sleep', '1000']\nready = 'notify'\nready_within = 'infinity'\n";
-    let mut daemon = Daemon::start(&tree_of(&child("a", "")), commands);
-    daemon.wait_for("start", |line| line.get("order") == "start");
+    // It doesn't listen to TERM, and has for ever to end.
+    let commands = "[a]\ncommand = ['sh', '-c', 'trap \"\" TERM; touch {folder}/deaf; while :; do sleep 0.1; done']\n\
+                    ready = 'notify'\nready_within = 'infinity'\n";
+    let mut daemon = Daemon::start(&tree_of(&child("a", "shutdown = \"infinity\"")), commands);
+    wait_until("it is deaf", || daemon.folder.join("deaf").exists());
     daemon.signal(TERM);
     thread::sleep(Duration::from_millis(700));
     daemon.signal(TERM);

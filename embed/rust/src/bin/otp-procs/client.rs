@@ -9,7 +9,12 @@ use std::path::Path;
 pub fn ask(folder: &Path, line: &str, out: &mut impl Write) -> io::Result<bool> {
     let mut stream = UnixStream::connect(socket_in(folder))?;
     stream.write_all(format!("{line}\n").as_bytes())?;
-    let head = head_of(&mut stream)?;
+    let mut head = line_of(&mut stream, 16)?;
+    while head == "wait" {
+        let why = line_of(&mut stream, 4096)?;
+        let _ = writeln!(io::stderr(), "otp-procs: {why}");
+        head = line_of(&mut stream, 16)?;
+    }
     let mut room = [0; 4096];
     loop {
         match stream.read(&mut room) {
@@ -24,8 +29,8 @@ pub fn ask(folder: &Path, line: &str, out: &mut impl Write) -> io::Result<bool> 
     }
 }
 
-/// The first line.
-fn head_of(stream: &mut UnixStream) -> io::Result<String> {
+/// The next line, of so many bytes at the most.
+fn line_of(stream: &mut UnixStream, most: usize) -> io::Result<String> {
     let mut head = Vec::new();
     let mut byte = [0];
     loop {
@@ -33,7 +38,7 @@ fn head_of(stream: &mut UnixStream) -> io::Result<String> {
             let text = "the daemon has closed the connection without an answer";
             return Err(io::Error::new(io::ErrorKind::UnexpectedEof, text));
         }
-        if byte[0] == b'\n' || head.len() > 16 {
+        if byte[0] == b'\n' || head.len() > most {
             return Ok(String::from_utf8_lossy(&head).into_owned());
         }
         head.push(byte[0]);

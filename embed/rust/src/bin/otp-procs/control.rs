@@ -1,6 +1,7 @@
 //! The control socket: who may speak, and that nobody who hangs or sends rubbish is waited for.
 //!
-//! A client sends one line, and gets `ok` or `error`, a line's end, and text until the daemon closes the connection.
+//! A client sends one line, and gets `ok` or `error`, a line's end, and text until the daemon closes the connection. Before that it
+//! may get `wait`, and a line that says why.
 
 use crate::os::{self, READABLE, WRITABLE, Waited};
 use std::fmt;
@@ -229,6 +230,14 @@ impl Control {
             client.output.extend_from_slice(head_of(answer).as_bytes());
             client.stage = Stage::Leaving;
             client.until = Some(now + PATIENCE);
+            client.flush();
+        }
+    }
+
+    /// A client that goes on waiting for its answer is told why.
+    pub fn say_why(&mut self, token: u64, text: &str) {
+        if let Some(client) = self.client(token) {
+            client.output.extend_from_slice(format!("wait\n{text}\n").as_bytes());
             client.flush();
         }
     }

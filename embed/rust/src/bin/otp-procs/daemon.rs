@@ -49,12 +49,16 @@ pub(crate) struct Waiter {
     pub path: String,
     /// What is said besides, if it is done.
     pub more: &'static str,
+    /// The supervisor that was called.
+    pub supervisor: u32,
+    /// The reading at which it is told what it waits for; nothing once that was done.
+    pub told_at: Option<u64>,
 }
 
 impl Waiter {
     /// A client that has named this path.
     pub fn new(token: u64, path: &str) -> Self {
-        Waiter { token, call: 0, then: None, path: path.to_string(), more: "" }
+        Waiter { token, call: 0, then: None, path: path.to_string(), more: "", supervisor: 0, told_at: None }
     }
 }
 
@@ -74,6 +78,13 @@ pub(crate) struct Seen {
     pub has_ended: bool,
 }
 
+/// From which reading on the tree may give orders, if it is told nothing before: where that isn't exact, not before it.
+#[derive(Clone, Copy, Debug, Default)]
+struct Due {
+    from: u64,
+    is_exact: bool,
+}
+
 /// The daemon.
 pub struct Daemon {
     pub(crate) tree: Counted,
@@ -87,10 +98,7 @@ pub struct Daemon {
     pub(crate) reading: u64,
     /// The reading that the tree was told last.
     told: u64,
-    /// From this reading on the tree may give orders, if it is told nothing before.
-    orders_due: u64,
-    /// That is right, and not only a lower bound.
-    is_due_known: bool,
+    due: Due,
     /// By the tree's numbers.
     pub(crate) live: BTreeMap<u64, Live>,
     /// The tree's numbers by those of the system.
@@ -105,6 +113,8 @@ pub struct Daemon {
     pub(crate) has_more_ends: bool,
     /// The reading at which a signal first asked for an end.
     pub(crate) asked: Option<u64>,
+    /// The root was told to shut down.
+    pub(crate) is_stopping: bool,
     /// All was killed, and is waited for until this reading.
     pub(crate) kill_until: Option<u64>,
     pub(crate) paths: Vec<String>,
@@ -144,8 +154,7 @@ impl Daemon {
             begun: Instant::now(),
             reading: 0,
             told: 0,
-            orders_due: 0,
-            is_due_known: false,
+            due: Due::default(),
             live: BTreeMap::new(),
             numbers: BTreeMap::new(),
             untold: VecDeque::new(),
@@ -154,6 +163,7 @@ impl Daemon {
             until_end: Vec::new(),
             has_more_ends: false,
             asked: None,
+            is_stopping: false,
             kill_until: None,
             seen: vec![Seen::default(); paths.len()],
             paths,
@@ -206,6 +216,7 @@ impl Daemon {
         }
         self.take_ends();
         self.take_dues();
+        self.tell_waiters();
     }
 
     pub(crate) fn now(&self) -> u64 {
@@ -224,11 +235,10 @@ impl Daemon {
 
     /// The reading at which the tree may have something to order. It is asked only where it was told something since.
     fn tree_due(&mut self) -> Option<u64> {
-        if !self.is_due_known {
-            self.orders_due = self.tree.next_deadline().unwrap_or(u64::MAX);
-            self.is_due_known = true;
+        if !self.due.is_exact {
+            self.due = Due { from: self.tree.next_deadline().unwrap_or(u64::MAX), is_exact: true };
         }
-        (self.orders_due < u64::MAX).then_some(self.orders_due)
+        (self.due.from < u64::MAX).then_some(self.due.from)
     }
 
     /// How long may be slept: until the first deadline of the tree, of a start or of a client.
@@ -241,7 +251,8 @@ impl Daemon {
         let clients = self.control.as_ref().and_then(|control| control.next_due(now));
         // A tree that had no memory would be asked in vain before that.
         let tree = if self.again.is_some() { self.again } else { self.tree_due() };
-        let due = [starts, clients, tree, self.kill_until].into_iter().flatten().min()?;
+        let waiters = self.waiters.iter().filter_map(|waiter| waiter.told_at).min();
+        let due = [starts, clients, tree, waiters, self.kill_until].into_iter().flatten().min()?;
         Some(Duration::from_millis(due).saturating_sub(self.begun.elapsed()))
     }
 
@@ -273,13 +284,13 @@ impl Daemon {
                 self.reading = now;
             }
             // What is due by now comes before what is told now: so a log can be played again from its lines alone.
-            if (self.orders_due <= self.reading && !self.take_orders()) || self.end.is_some() {
+            if (self.due.from <= self.reading && !self.take_orders()) || self.end.is_some() {
                 return;
             }
             let Some(untold) = self.untold.pop_front() else { break };
             self.tell_time();
             self.touched.insert(untold.told.supervisor());
-            (self.orders_due, self.is_due_known) = (0, false);
+            self.due = Due::default();
             match untold.told.tell(&mut self.tree) {
                 Ok(call) => {
                     self.log.tell(self.reading, &untold.record);
@@ -299,7 +310,10 @@ impl Daemon {
                 }
             }
         }
-        self.look_at_supervisors();
+        if !self.touched.is_empty() {
+            self.cut_starts();
+            self.look_at_supervisors();
+        }
     }
 
     /// Whether all orders were taken.
@@ -309,7 +323,7 @@ impl Daemon {
             match self.tree.next_order() {
                 Ok(Some(order)) => self.carry_out(order),
                 Ok(None) => {
-                    (self.orders_due, self.is_due_known) = (self.reading.saturating_add(1), false);
+                    self.due = Due { from: self.reading.saturating_add(1), is_exact: false };
                     return true;
                 }
                 Err(fault) => {
@@ -355,6 +369,8 @@ impl Daemon {
             Some(end) => match end.cause {
                 Cause::Asked => Ended::Asked,
                 Cause::Intensity => Ended::Intensity,
+                // A stop doesn't wait for the starts of a tree that isn't up yet: these fail then.
+                Cause::InitFailed(_) if self.is_stopping => Ended::Asked,
                 Cause::InitFailed(_) => Ended::InitFailed,
                 Cause::Significant(_) => Ended::Significant,
             },

@@ -1,7 +1,7 @@
 //! Carries out what the tree orders, and what clients ask for.
 
 use crate::daemon::{Daemon, Seen, Untold, Waiter};
-use crate::ends::refused;
+use crate::ends::{refused, stopped};
 use crate::live::Live;
 use crate::log::{Class, Record};
 use crate::os;
@@ -12,6 +12,9 @@ use crate::status;
 use crate::told::{CallKind, Told};
 use otp_embed::{Answer, Name, Note, Order, Phase, Process, Reason, Reply, Restart, Supervisor};
 use std::collections::BTreeSet;
+
+/// A client that has waited for so many milliseconds is told for what.
+const LONG: u64 = 1_000;
 
 /// What a client wants of a child.
 #[derive(Clone, Copy, Debug, PartialEq, Eq)]
@@ -60,11 +63,13 @@ impl Daemon {
 
     fn start(&mut self, process: Process) {
         let path = self.path_of(&process);
+        let is_vain = self.is_stopping && self.is_in_the_way(process.supervisor);
         let spawned = match self.plans.get(process.start.as_str()).cloned() {
             _ if self.kill_until.is_some() => {
                 let text = "all processes are being killed".to_string();
                 Err(NotStarted { reason: Reason::error("killing"), text })
             }
+            _ if is_vain => Err(NotStarted { reason: stopped(), text: "its supervisor is to stop".to_string() }),
             None => {
                 let text = format!("no table [{}] in the file of commands", process.start);
                 Err(NotStarted { reason: Reason::error("no_command"), text })
@@ -190,8 +195,28 @@ impl Daemon {
 
     fn call(&mut self, told: Told, waiter: Waiter) {
         let record = told.record(&waiter.path);
+        let told_at = Some(self.reading.saturating_add(LONG));
+        let waiter = Waiter { supervisor: told.supervisor(), told_at, ..waiter };
         self.untold.push_back(Untold { told, record, waiter: Some(waiter) });
         self.go_on();
+    }
+
+    /// Clients that have waited for a while are told for what: a call has its turn once its supervisor has done what it does.
+    pub(crate) fn tell_waiters(&mut self) {
+        let now = self.reading;
+        let late = self.waiters.iter_mut().filter(|waiter| waiter.told_at.is_some_and(|at| at <= now));
+        let late: Vec<(u64, String, u32)> = late
+            .map(|waiter| {
+                waiter.told_at = None;
+                (waiter.token, waiter.path.clone(), waiter.supervisor)
+            })
+            .collect();
+        for (token, path, supervisor) in late {
+            let text = format!("{path} waits: {}", status::work_of(self, supervisor));
+            if let Some(control) = &mut self.control {
+                control.say_why(token, &text);
+            }
+        }
     }
 
     fn call_supervisor(&mut self, token: u64, path: &str, kind: CallKind) {

@@ -1,11 +1,12 @@
 //! How processes are ended: each by itself, and all at once where a second signal asks for it.
 
 use crate::daemon::Daemon;
-use crate::live::Live;
+use crate::live::{Live, Stage};
 use crate::log::{Class, Record};
 use crate::os;
 use crate::plan::SignalTo;
 use crate::strays::Swept;
+use otp_embed::{ChildState, Reason, Shutdown};
 use std::io;
 
 /// So many milliseconds after all was killed the daemon ends, though a process is left that the system doesn't let end.
@@ -16,7 +17,17 @@ pub(crate) fn refused(error: io::Error) -> String {
     format!("it can't be signalled: {error}")
 }
 
+/// The reason of a start that a supervisor which is to stop doesn't wait for.
+pub(crate) fn stopped() -> Reason {
+    Reason::error("stopped")
+}
+
 impl Live {
+    /// Whether its supervisor waits until it is up.
+    fn is_waited_for(&self) -> bool {
+        matches!(self.stage, Stage::Starting(_)) && !self.is_cut
+    }
+
     /// Asks it to end, by its signal. One that stands still is let go on, so that it can do what it has to before its end.
     pub fn ask(&self) -> io::Result<()> {
         let send = match self.plan.signal_to {
@@ -29,6 +40,73 @@ impl Live {
 }
 
 impl Daemon {
+    /// Whether a supervisor that is to stop waits for a start of this one: itself, or one above it that waits until it is up.
+    pub(crate) fn is_in_the_way(&mut self, supervisor: u32) -> bool {
+        let mut at = supervisor;
+        loop {
+            let Ok(found) = self.tree.supervisor(at) else { return false };
+            if found.is_stopping {
+                return true;
+            }
+            let rows = if at == 0 { Vec::new() } else { self.tree.children(found.parent).unwrap_or_default() };
+            if !rows.iter().any(|row| row.nested == Some(at) && row.state == ChildState::Starting) {
+                return false;
+            }
+            at = found.parent;
+        }
+    }
+
+    /// Starts that keep a supervisor from its stop are cut short: by the rules it waits for each, so they fail.
+    pub(crate) fn cut_starts(&mut self) {
+        let starting: Vec<u64> =
+            self.live.values().filter(|live| live.is_waited_for()).map(|live| live.process.number).collect();
+        for number in starting {
+            let Some(supervisor) = self.live.get(&number).map(|live| live.process.supervisor) else { continue };
+            if self.is_in_the_way(supervisor) {
+                self.cut(number, supervisor);
+            }
+        }
+    }
+
+    /// A process that isn't up is ended as one that is: asked, and killed after the time that its specification has.
+    fn cut(&mut self, number: u64, supervisor: u32) {
+        let rows = self.tree.children(supervisor).unwrap_or_default();
+        let shutdown = rows.iter().find(|row| row.number == Some(number)).map(|row| row.spec.shutdown);
+        let now = self.now();
+        let Some(live) = self.live.get_mut(&number) else { return };
+        (live.is_cut, live.is_asked) = (true, true);
+        let record = Record::new(Class::Remark, "cut_short").text("path", &live.path).number("number", number);
+        let time = match shutdown {
+            Some(Shutdown::Milliseconds(time)) => Some(u64::from(time)),
+            Some(Shutdown::Infinity) => None,
+            Some(Shutdown::BrutalKill) | None => Some(0),
+        };
+        live.kill_at = time.map(|time| now.saturating_add(time));
+        let record = if time == Some(0) {
+            record
+        } else {
+            let sent = live.ask();
+            record.text("signal", live.plan.signal.0).maybe("text", sent.err().map(refused))
+        };
+        self.remark(match time {
+            Some(time) if time > 0 => record.number("within_ms", time),
+            _ => record,
+        });
+        self.kill_cut(number);
+    }
+
+    /// Kills a process whose start was cut short, once its time is over.
+    pub(crate) fn kill_cut(&mut self, number: u64) {
+        let now = self.now();
+        let Some(live) = self.live.get_mut(&number).filter(|live| live.kill_at.is_some_and(|at| at <= now)) else {
+            return;
+        };
+        live.kill_at = None;
+        let sent = os::signal_group(live.pid, os::SIGKILL);
+        let record = Record::new(Class::Remark, "cut_short").text("path", &live.path).number("number", number);
+        self.remark(record.text("signal", "KILL").maybe("text", sent.err().map(refused)));
+    }
+
     /// All processes are killed, and no other is started any more.
     pub(crate) fn kill_all(&mut self) {
         if self.kill_until.is_none() {

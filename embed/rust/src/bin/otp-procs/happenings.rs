@@ -2,6 +2,7 @@
 
 use crate::control::Spoken;
 use crate::daemon::Daemon;
+use crate::ends::stopped;
 use crate::live::{Stage, text_of};
 use crate::log::{Class, Record};
 use crate::os::{self, Waited};
@@ -65,6 +66,7 @@ impl Daemon {
 
     /// The root is wanted to shut down.
     pub(crate) fn stop(&mut self) {
+        self.is_stopping = true;
         self.push(Told::Stop, Told::Stop.record(""));
         self.go_on();
     }
@@ -112,7 +114,7 @@ impl Daemon {
         let Some(live) = self.live.get_mut(&number) else {
             return;
         };
-        let Stage::Starting(since) = live.stage else {
+        let (Stage::Starting(since), false) = (live.stage, live.is_cut) else {
             return;
         };
         live.stage = Stage::Up(reading);
@@ -154,6 +156,7 @@ impl Daemon {
         let is_ignored = status.code().is_some() && status.code() == live.plan.ignored_status;
         let note = match live.stage {
             Stage::Up(_) => Note::Exit(number, reason),
+            Stage::Starting(_) if live.is_cut => Note::Failed(number, stopped()),
             Stage::Starting(_) if is_ignored => Note::Ignored(number),
             Stage::Starting(_) if live.is_late => Note::Failed(number, Reason::error("not_up_in_time")),
             Stage::Starting(_) => Note::Failed(number, reason),
@@ -177,6 +180,10 @@ impl Daemon {
             let Some(live) = self.live.get_mut(&number) else {
                 continue;
             };
+            if live.is_cut {
+                self.kill_cut(number);
+                continue;
+            }
             if live.is_up_when_due() {
                 self.is_up(number);
                 continue;

@@ -42,6 +42,10 @@ pub struct Live {
     pub is_asked: bool,
     /// It wasn't up in time, and was killed.
     pub is_late: bool,
+    /// Its start isn't waited for: it was asked to end, though it isn't up.
+    pub is_cut: bool,
+    /// Once it is cut, it is killed at this reading.
+    pub kill_at: Option<u64>,
     /// What it is run by.
     pub plan: Rc<Plan>,
     outlet: Option<Outlet>,
@@ -84,6 +88,8 @@ impl Live {
             stage: Stage::Starting(reading),
             is_asked: false,
             is_late: false,
+            is_cut: false,
+            kill_at: None,
             plan,
             outlet,
             notify: spawned.notify,
@@ -105,6 +111,9 @@ impl Live {
         let Stage::Starting(since) = self.stage else {
             return None;
         };
+        if self.is_cut {
+            return self.kill_at;
+        }
         match self.plan.ready {
             Ready::Start => Some(since),
             Ready::After(time) => Some(since.saturating_add(time)),

@@ -3,7 +3,7 @@
 use crate::daemon::Daemon;
 use crate::live::{Live, Stage};
 use crate::log::quoted;
-use otp_embed::{Child, Phase, Supervisor};
+use otp_embed::{Child, ChildState, Phase, Supervisor};
 use std::fmt::Write;
 
 /// The column in which what stands behind the names begins.
@@ -47,9 +47,17 @@ fn words_of(supervisor: &Supervisor) -> String {
     words
 }
 
+/// Whether a child that counts as up has ended: its supervisor starts or stops others, and looks at no end before that is done.
+fn has_ended(child: &Child, is_there: bool) -> bool {
+    child.state == ChildState::Up && !is_there
+}
+
 /// How a child without a tree of its own stands, in words.
 fn words_of_child(child: &Child, live: Option<&Live>, now: u64) -> String {
     let mut words = format!("{:<10}", child.state);
+    if has_ended(child, live.is_some()) {
+        words = "ended, waits".to_string();
+    }
     if let Some(number) = child.number {
         let _ = write!(words, "  #{number}");
     }
@@ -61,6 +69,44 @@ fn words_of_child(child: &Child, live: Option<&Live>, now: u64) -> String {
         let _ = write!(words, "  killed in {}", span(deadline.saturating_sub(now)));
     }
     words.trim_end().to_string()
+}
+
+/// What a supervisor waits for, so that it looks at nothing else: the child that it starts or stops, or one further below.
+pub fn work_of(daemon: &mut Daemon, supervisor: u32) -> String {
+    let mut at = supervisor;
+    loop {
+        let children = daemon.tree.children(at).unwrap_or_default();
+        let is_busy =
+            |child: &&Child| matches!(child.state, ChildState::Starting | ChildState::Asked | ChildState::Killed);
+        let Some(child) = children.iter().find(is_busy) else {
+            return "its supervisor is busy".to_string();
+        };
+        match child.nested.filter(|&nested| nested > at) {
+            Some(nested) => at = nested,
+            None => return daemon.words_of_work(at, child),
+        }
+    }
+}
+
+impl Daemon {
+    fn words_of_work(&self, supervisor: u32, child: &Child) -> String {
+        let path = format!("{}{}", self.paths.get(supervisor as usize).map_or("", String::as_str), name_of(child));
+        let live = child.number.and_then(|number| self.live.get(&number));
+        match (child.state, live, child.deadline) {
+            (ChildState::Starting, Some(live), _) => {
+                let (Stage::Starting(since) | Stage::Up(since)) = live.stage;
+                let most =
+                    live.plan.ready_within.map_or(String::new(), |most| format!(" of {} at the most", span(most)));
+                format!("{path} is starting, for {}{most}", span(self.reading.saturating_sub(since)))
+            }
+            (ChildState::Asked, _, Some(deadline)) => {
+                format!("{path} was asked to end, and is killed in {}", span(deadline.saturating_sub(self.reading)))
+            }
+            (ChildState::Asked, ..) => format!("{path} was asked to end"),
+            (ChildState::Killed, ..) => format!("{path} was killed, and hasn't ended"),
+            _ => format!("{path} is starting"),
+        }
+    }
 }
 
 /// For people: a line for each supervisor and each child, those of a supervisor two columns further to the right.
@@ -144,7 +190,13 @@ fn add_json(daemon: &mut Daemon, number: u32, text: &mut String) {
 
 fn add_child_json(daemon: &mut Daemon, child: &Child, text: &mut String) {
     let id = child.id.map_or_else(|| "null".to_string(), |id| quoted(id.as_str()));
-    let _ = write!(text, "{{\"id\":{id},\"start\":{},\"state\":\"{}\"", quoted(child.spec.start.as_str()), child.state);
+    let is_there = match (child.nested, child.number) {
+        (Some(nested), _) => daemon.tree.supervisor(nested).is_ok_and(|found| found.process.is_some()),
+        (None, Some(number)) => daemon.live.contains_key(&number),
+        (None, None) => false,
+    };
+    let state = if has_ended(child, is_there) { "ended" } else { child.state.as_str() };
+    let _ = write!(text, "{{\"id\":{id},\"start\":{},\"state\":\"{state}\"", quoted(child.spec.start.as_str()));
     if let Some(number) = child.number {
         let _ = write!(text, ",\"number\":{number}");
         if let Some(live) = daemon.live.get(&number) {
