@@ -214,14 +214,24 @@ fn check_tells_what_is_missing_on_this_machine() {
         fs::write(folder.join("commands.toml"), commands).unwrap();
         let mut check = std::process::Command::new(common::daemon::PROGRAM);
         let output = check.args(["check", "tree.toml", "commands.toml"]).current_dir(&folder).output().unwrap();
-        (output.status.code(), String::from_utf8_lossy(&output.stderr).into_owned())
+        let told = [output.stdout, output.stderr].concat();
+        (output.status.code(), String::from_utf8_lossy(&told).into_owned())
     };
     assert_eq!(check(STEADY), (Some(0), String::new()));
+    // Its folder is the daemon's, not the one in which the process works.
+    let file = "[a]\ncommand = ['sleep', '1']\nfolder = '/'\noutput = 'file'\noutput_file = ";
+    assert_eq!(check(&format!("{file}'out'")), (Some(0), String::new()));
+    fs::create_dir(folder.join("logs")).unwrap();
+    assert_eq!(check(&format!("{file}'logs/out'")), (Some(0), String::new()));
+    let (status, told) = check(&format!("{STEADY}[z]\ncommand = ['sleep', '1']"));
+    assert_eq!((status, told.as_str()), (Some(0), "commands.toml: [z] is run by no child of tree.toml\n"));
     for (commands, text) in [
         ("[b]\ncommand = ['sleep', '1']\n", "no table for a"),
         ("[a]\ncommand = ['no_such_program']\n", "[a] there is no program no_such_program"),
         ("[a]\ncommand = ['./sleep']\n", "[a] there is no program ./sleep"),
         ("[a]\ncommand = ['sleep', '1']\nfolder = '/nowhere'\n", "[a] there is no folder /nowhere"),
+        (&format!("{file}'/nowhere/out'"), "[a] there can be no output_file /nowhere/out"),
+        (&format!("{file}'logs'"), "[a] there can be no output_file logs"),
     ] {
         let (status, told) = check(commands);
         assert!(status == Some(1) && told.contains(text), "{told}");

@@ -9,6 +9,7 @@ use crate::os::{self, Waited};
 use crate::plan::Ready;
 use crate::told::Told;
 use otp_embed::{Note, Reason};
+use std::os::unix::process::ExitStatusExt;
 use std::process::ExitStatus;
 
 /// So many children are reaped before others have their turn.
@@ -162,7 +163,10 @@ impl Daemon {
             Stage::Starting(_) => Note::Failed(number, reason),
         };
         let told = Told::Note(live.process.supervisor, note);
-        let record = told.record(&live.path).number("pid", pid as u64).text("ended", text_of(status));
+        let mut record = told.record(&live.path).number("pid", pid as u64).text("ended", text_of(status));
+        if status.core_dumped() {
+            record = record.number("core", 1);
+        }
         self.push(told, record);
         self.go_on();
     }

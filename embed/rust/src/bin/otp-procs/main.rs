@@ -29,9 +29,10 @@ use crate::control::Control;
 use crate::daemon::{Daemon, Ended};
 use crate::log::Log;
 use crate::mark::Mark;
-use crate::plan::{Plan, Plans};
+use crate::plan::{Output, Plan, Plans};
 use crate::words::{Run, Words};
 use otp_embed::{Fault, Note, Order, Strategy, Tree};
+use std::collections::BTreeSet;
 use std::error::Error;
 use std::fs;
 use std::io::{self, Write};
@@ -67,18 +68,7 @@ fn serve(words: Words) -> Result<u8, Box<dyn Error>> {
             Ok(0)
         }
         Words::Run(run) => Ok(run_tree(&run)? as u8),
-        Words::Check(tree, commands) => {
-            let (_, plans) = read_files(&tree, &commands)?;
-            let lacking = lacking(&tree, &plans)?;
-            if !lacking.is_empty() {
-                return Err(no_tables(&commands, &lacking).into());
-            }
-            let faults: Vec<String> = plans.iter().filter_map(|(word, plan)| fault_of(word, plan)).collect();
-            if !faults.is_empty() {
-                return Err(format!("{}: {}", commands.display(), faults.join("; ")).into());
-            }
-            Ok(0)
-        }
+        Words::Check(tree, commands) => check(&tree, &commands).map(|()| 0),
         Words::Replay(tree, log) => {
             let mut tree = open(&tree)?;
             let text = read(&log)?;
@@ -110,31 +100,33 @@ fn read_files(tree: &Path, commands: &Path) -> Result<(Tree, Plans), Box<dyn Err
     Ok((tree, plans))
 }
 
-/// The start words of the tree for which the file of commands has no table. They are those of the processes that a tree of
-/// the same file starts, where each start succeeds: the word of a child with a tree starts none.
-fn lacking(file: &Path, plans: &Plans) -> Result<Vec<String>, Box<dyn Error>> {
+/// The start words of the processes that a tree of this file starts, where each start succeeds: the word of a child with a tree
+/// starts none.
+fn words_run(file: &Path) -> Result<BTreeSet<String>, Box<dyn Error>> {
     let mut tree = open(file)?;
-    let mut lacking = Vec::new();
-    take_starts(&mut tree, plans, &mut lacking)?;
+    let mut words = BTreeSet::new();
+    take_starts(&mut tree, &mut words)?;
     for number in 0..tree.supervisors() {
         if tree.supervisor(number)?.strategy == Strategy::SimpleOneForOne {
             tree.start_dynamic(number)?;
         }
     }
-    take_starts(&mut tree, plans, &mut lacking)?;
-    Ok(lacking)
+    take_starts(&mut tree, &mut words)?;
+    Ok(words)
 }
 
-fn take_starts(tree: &mut Tree, plans: &Plans, lacking: &mut Vec<String>) -> Result<(), Fault> {
+fn take_starts(tree: &mut Tree, words: &mut BTreeSet<String>) -> Result<(), Fault> {
     while let Some(order) = tree.next_order()? {
         let Order::Start(process) = order else { continue };
         tree.note(process.supervisor, Note::Up(process.number))?;
-        let word = process.start.to_string();
-        if !plans.contains_key(&word) && !lacking.contains(&word) {
-            lacking.push(word);
-        }
+        words.insert(process.start.to_string());
     }
     Ok(())
+}
+
+/// The start words for which the file of commands has no table.
+fn lacking(words: &BTreeSet<String>, plans: &Plans) -> Vec<String> {
+    words.iter().filter(|word| !plans.contains_key(*word)).cloned().collect()
 }
 
 /// What is missing on this machine now that the plan of a start word needs. A start would fail by it.
@@ -142,7 +134,31 @@ fn fault_of(word: &str, plan: &Plan) -> Option<String> {
     if let Some(folder) = plan.folder.as_ref().filter(|folder| !folder.is_dir()) {
         return Some(format!("[{word}] there is no folder {}", folder.display()));
     }
+    if let Output::File(file) = &plan.output {
+        let folder = file.parent().filter(|folder| !folder.as_os_str().is_empty());
+        if file.is_dir() || folder.is_some_and(|folder| !folder.is_dir()) {
+            return Some(format!("[{word}] there can be no output_file {}", file.display()));
+        }
+    }
     (!program::can_be_found(plan)).then(|| format!("[{word}] there is no program {}", plan.command[0]))
+}
+
+fn check(tree: &Path, commands: &Path) -> Result<(), Box<dyn Error>> {
+    let (_, plans) = read_files(tree, commands)?;
+    let words = words_run(tree)?;
+    let lacking = lacking(&words, &plans);
+    if !lacking.is_empty() {
+        return Err(no_tables(commands, &lacking).into());
+    }
+    let faults: Vec<String> = plans.iter().filter_map(|(word, plan)| fault_of(word, plan)).collect();
+    if !faults.is_empty() {
+        return Err(format!("{}: {}", commands.display(), faults.join("; ")).into());
+    }
+    // Several trees may share a file of commands, so this is no fault.
+    for word in plans.keys().filter(|word| !words.contains(*word)) {
+        writeln!(io::stdout(), "{}: [{word}] is run by no child of {}", commands.display(), tree.display())?;
+    }
+    Ok(())
 }
 
 fn no_tables(commands: &Path, lacking: &[String]) -> String {
@@ -151,12 +167,13 @@ fn no_tables(commands: &Path, lacking: &[String]) -> String {
 
 fn run_tree(run: &Run) -> Result<Ended, Box<dyn Error>> {
     let (tree, plans) = read_files(&run.tree, &run.commands)?;
-    let lacking = lacking(&run.tree, &plans)?;
+    let lacking = lacking(&words_run(&run.tree)?, &plans);
     if !lacking.is_empty() {
         return Err(no_tables(&run.commands, &lacking).into());
     }
     os::keep_descriptors()
         .map_err(|error| format!("/proc/self/fd can't be read, by which descriptors are kept: {error}"))?;
+    os::raise_descriptors().map_err(|error| format!("the limit of descriptors can't be raised: {error}"))?;
     let _reserved = os::reserve_descriptors().map_err(|error| format!("/dev/null can't be opened: {error}"))?;
     let signals =
         os::signals_as_descriptor().map_err(|error| format!("there is no descriptor for signals: {error}"))?;

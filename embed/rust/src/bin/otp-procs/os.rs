@@ -10,6 +10,7 @@ use std::os::unix::net::UnixStream;
 use std::os::unix::process::{CommandExt, ExitStatusExt};
 use std::path::Path;
 use std::process::{Command, ExitStatus};
+use std::sync::OnceLock;
 use std::time::Duration;
 
 #[cfg(not(target_os = "linux"))]
@@ -73,6 +74,7 @@ const P_ALL: c_int = 0;
 const WNOHANG: c_int = 1;
 const WEXITED: c_int = 4;
 const WNOWAIT: c_int = 0x0100_0000;
+const RLIMIT_NOFILE: c_int = 7;
 const SOL_SOCKET: c_int = 1;
 const SO_PEERCRED: c_int = 17;
 const ESRCH: i32 = 3;
@@ -127,6 +129,16 @@ struct PeerUser {
     gid: u32,
 }
 
+#[repr(C)]
+#[derive(Clone, Copy, Debug)]
+struct Limit {
+    soft: u64,
+    hard: u64,
+}
+
+/// How many descriptors this process might have open when it began.
+static DESCRIPTORS: OnceLock<Limit> = OnceLock::new();
+
 unsafe extern "C" {
     fn poll(fds: *mut Waited, count: u64, milliseconds: c_int) -> c_int;
     fn kill(pid: c_int, signal: c_int) -> c_int;
@@ -143,6 +155,8 @@ unsafe extern "C" {
     fn write(fd: c_int, from: *const c_void, length: usize) -> isize;
     fn waitid(kind: c_int, id: u32, info: *mut SignalInfo, options: c_int) -> c_int;
     fn waitpid(pid: c_int, status: *mut c_int, options: c_int) -> c_int;
+    fn getrlimit(resource: c_int, limit: *mut Limit) -> c_int;
+    fn setrlimit(resource: c_int, limit: *const Limit) -> c_int;
     fn getsockopt(fd: c_int, level: c_int, name: c_int, value: *mut c_void, length: *mut u32) -> c_int;
     fn geteuid() -> u32;
     fn getppid() -> c_int;
@@ -380,11 +394,26 @@ pub fn reserve_descriptors() -> io::Result<Vec<File>> {
     }
 }
 
+/// This process may have as many descriptors open as the system allows: each child may take one or two. What it starts has the
+/// limit that it began with.
+pub fn raise_descriptors() -> io::Result<()> {
+    let mut limit = Limit { soft: 0, hard: 0 };
+    // SAFETY: `limit` has the form of `struct rlimit`.
+    unsafe {
+        checked(getrlimit(RLIMIT_NOFILE, &raw mut limit))?;
+        let raised = Limit { soft: limit.hard, ..limit };
+        checked(setrlimit(RLIMIT_NOFILE, &raw const raised))?;
+    }
+    DESCRIPTORS.get_or_init(|| limit);
+    Ok(())
+}
+
 /// What is done in the child before its program begins: no signal is blocked or ignored, it is killed if this process ends,
-/// and the descriptor on which it tells that it is up gets the number wanted.
+/// the descriptor on which it tells that it is up gets the number wanted, and it may have as many as this process might.
 pub fn prepare_child(command: &mut Command, notify: Option<(RawFd, RawFd)>) {
     let none = set_of(&[]);
     let parent = std::process::id();
+    let descriptors = DESCRIPTORS.get().copied();
     // SAFETY: between fork and exec only calls are made that are safe in a signal handler, and no memory is taken.
     unsafe {
         command.pre_exec(move || {
@@ -398,10 +427,13 @@ pub fn prepare_child(command: &mut Command, notify: Option<(RawFd, RawFd)>) {
             if getppid() as u32 != parent {
                 return Err(io::Error::from_raw_os_error(ESRCH));
             }
-            match notify {
-                Some((from, to)) => checked(dup2(from, to)).map(|_| ()),
-                None => Ok(()),
+            if let Some((from, to)) = notify {
+                checked(dup2(from, to))?;
             }
+            if let Some(limit) = descriptors {
+                checked(setrlimit(RLIMIT_NOFILE, &raw const limit))?;
+            }
+            Ok(())
         });
     }
 }
