@@ -469,6 +469,6 @@ fn a_log_that_nobody_reads_keeps_nobody_waiting() {
     assert!(is_done, "{text}");
     let count = std::io::Read::read(&mut reader, &mut room).unwrap();
     let text = String::from_utf8_lossy(&room[..count]);
-    assert!(text.contains("{\"remark\":\"lost\",\"lines\":"), "{text}");
+    assert!(text.contains("\"remark\":\"lost\",\"lines\":"), "{text}");
     assert_eq!(daemon.stop(), 0);
 }

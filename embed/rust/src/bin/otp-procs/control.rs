@@ -251,6 +251,11 @@ impl Control {
         }
     }
 
+    /// Whether somebody follows the log.
+    pub fn is_followed(&self) -> bool {
+        self.clients.iter().any(|client| client.stage == Stage::Following)
+    }
+
     /// Whoever follows the log gets these lines.
     pub fn tell(&mut self, lines: &[String]) {
         for client in self.clients.iter_mut().filter(|client| client.stage == Stage::Following) {

@@ -6,6 +6,8 @@ use crate::live::Live;
 use crate::log::{Class, Log, Record};
 use crate::mark::Mark;
 use crate::os::{self, READABLE, Waited};
+use crate::outlet::{Outlet, Room};
+use crate::output::Source;
 use crate::plan::Plans;
 use crate::strays;
 use crate::told::Told;
@@ -103,6 +105,9 @@ pub struct Daemon {
     pub(crate) live: BTreeMap<u64, Live>,
     /// The tree's numbers by those of the system.
     pub(crate) numbers: BTreeMap<i32, u64>,
+    /// What processes that have ended had written, as far as it couldn't be passed on at once.
+    pub(crate) rests: Vec<(Source, Outlet)>,
+    pub(crate) room: Room,
     pub(crate) untold: VecDeque<Untold>,
     /// Nothing is told before this reading, since memory was refused.
     again: Option<u64>,
@@ -157,6 +162,8 @@ impl Daemon {
             due: Due::default(),
             live: BTreeMap::new(),
             numbers: BTreeMap::new(),
+            rests: Vec::new(),
+            room: Room::default(),
             untold: VecDeque::new(),
             again: None,
             waiters: Vec::new(),
@@ -181,17 +188,19 @@ impl Daemon {
         self.go_on();
         while self.end.is_none() && !self.is_broken && !self.gives_up() {
             self.tell_followers();
+            self.log.flush();
             let mut waited = vec![Waited::new(self.signals.as_raw_fd(), READABLE)];
             let clients = self.control.as_ref().map_or_else(Vec::new, |control| control.waited(self.now()));
             let after_clients = 1 + clients.len();
             waited.extend(clients);
             let mut tells: Vec<u64> = Vec::new();
             for (number, live) in &self.live {
-                for fd in live.descriptors() {
-                    waited.push(Waited::new(fd, READABLE));
+                for one in live.waited() {
+                    waited.push(one);
                     tells.push(*number);
                 }
             }
+            waited.extend(self.rests.iter().filter_map(|(_, outlet)| outlet.waited()));
             if let Err(error) = os::wait(&mut waited, self.time_left()) {
                 // The system has no memory for it just now: the processes go on, and so does the daemon in a while.
                 let text = format!("nothing can be waited for: {error}");
@@ -211,8 +220,9 @@ impl Daemon {
         self.go_on();
         self.take_signals();
         self.take_requests(clients);
+        self.write_rests();
         for number in telling {
-            self.read_output(*number);
+            self.read_output(*number, false);
         }
         self.take_ends();
         self.take_dues();
@@ -349,6 +359,7 @@ impl Daemon {
     }
 
     pub(crate) fn tell_followers(&mut self) {
+        self.log.is_followed = self.control.as_ref().is_some_and(Control::is_followed);
         let lines = self.log.take_fresh();
         if let Some(control) = &mut self.control {
             control.tell(&lines);
@@ -375,7 +386,9 @@ impl Daemon {
                 Cause::Significant(_) => Ended::Significant,
             },
         };
+        self.give_up_rests();
         self.tell_followers();
+        self.log.flush();
         let now = self.now();
         let tokens: Vec<u64> =
             self.until_end.iter().copied().chain(self.waiters.iter().map(|waiter| waiter.token)).collect();

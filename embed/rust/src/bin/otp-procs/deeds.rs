@@ -150,6 +150,8 @@ impl Daemon {
     /// The whole answer of a client.
     pub(crate) fn answer(&mut self, token: u64, answer: Result<&str, &str>) {
         let now = self.reading;
+        // What was done for it can be read in the log by then.
+        self.log.flush();
         if let Some(control) = &mut self.control {
             control.answer(now, token, answer);
         }
@@ -175,6 +177,7 @@ impl Daemon {
                     self.tell_followers();
                     if let Some(control) = &mut self.control {
                         control.follow(token, &text);
+                        self.log.is_followed = true;
                     }
                 } else {
                     self.answer(token, Ok(&text));

@@ -25,6 +25,8 @@ impl Daemon {
             let record = record.text("name", os::name_of(sent.signal));
             match sent.signal {
                 os::SIGCHLD => {}
+                // By XFSZ the system tells that a write of the daemon was refused. Told in the log it would come again and again.
+                _ if sent.pid == std::process::id() => {}
                 os::SIGTERM | os::SIGINT => {
                     self.remark(record);
                     self.take_stop_signal();
@@ -86,25 +88,8 @@ impl Daemon {
         }
     }
 
-    /// Reads what a process has written, and tells the tree if that says that it is up.
-    pub(crate) fn read_output(&mut self, number: u64) {
-        let Some(live) = self.live.get_mut(&number) else {
-            return;
-        };
-        let news = live.read();
-        let path = live.path.clone();
-        for line in news.lines {
-            self.remark(
-                Record::new(Class::Remark, "says").text("path", &path).number("number", number).text("line", line),
-            );
-        }
-        if news.is_up {
-            self.is_up(number);
-        }
-    }
-
     /// The start of a process has succeeded: that is told, and what follows is done.
-    fn is_up(&mut self, number: u64) {
+    pub(crate) fn is_up(&mut self, number: u64) {
         self.note_up(number);
         self.go_on();
     }
@@ -137,7 +122,7 @@ impl Daemon {
             if let Some(number) = number {
                 // Until it is reaped its number is its own, so this reaches nobody else.
                 let _ = os::signal_group(pid, os::SIGKILL);
-                self.read_output(number);
+                self.read_output(number, true);
             }
             // One that isn't the tree's was left behind by a child.
             let Some(status) = os::reap(pid) else { return };
@@ -150,9 +135,10 @@ impl Daemon {
 
     fn take_end(&mut self, number: u64, pid: i32, status: ExitStatus) {
         self.numbers.remove(&pid);
-        let Some(live) = self.live.remove(&number) else {
+        let Some(mut live) = self.live.remove(&number) else {
             return;
         };
+        self.keep_rest(&mut live);
         let reason = live.reason_of(status);
         let is_ignored = status.code().is_some() && status.code() == live.plan.ignored_status;
         let note = match live.stage {

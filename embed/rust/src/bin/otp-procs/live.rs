@@ -1,22 +1,15 @@
-//! The processes that run: their output, whether they are up, and with which reason they end.
+//! The processes that run: whether they are up, and with which reason they end.
 
-use crate::os;
-use crate::plan::{Output, Plan, Ready};
-use crate::spawn::{Spawned, open_output};
+use crate::os::{self, READABLE, Waited};
+use crate::outlet::{Heard, Outlet, Room};
+use crate::plan::{Plan, Ready};
+use crate::spawn::Spawned;
 use otp_embed::{Process, Reason};
-use std::fs::File;
 use std::io::{self, PipeReader};
-use std::os::fd::{AsFd, AsRawFd, BorrowedFd, RawFd};
+use std::os::fd::{AsFd, AsRawFd};
 use std::os::unix::process::ExitStatusExt;
 use std::process::ExitStatus;
 use std::rc::Rc;
-
-/// A line of output that goes on for longer is cut into pieces of so many bytes.
-const LONGEST: usize = 1024;
-/// So much of the output is read at once.
-const ROOM: usize = 4096;
-/// So often at most it is read before others have their turn: a child that writes without end keeps nobody waiting.
-const READS: usize = 16;
 
 /// Where a process is between its start and its end.
 #[derive(Clone, Copy, Debug, PartialEq, Eq)]
@@ -52,35 +45,9 @@ pub struct Live {
     notify: Option<PipeReader>,
 }
 
-/// The output of a process, as the daemon reads it.
-#[derive(Debug)]
-struct Outlet {
-    pipe: PipeReader,
-    /// What came of a line that isn't whole.
-    line: Vec<u8>,
-    file: Option<File>,
-}
-
-/// What was read of a process.
-#[derive(Debug, Default)]
-pub struct News {
-    /// It tells that it is up.
-    pub is_up: bool,
-    /// Lines for the log.
-    pub lines: Vec<String>,
-}
-
 impl Live {
     /// A process that was just started.
     pub fn new(process: Process, path: String, plan: Rc<Plan>, spawned: Spawned, reading: u64) -> Self {
-        let outlet = spawned.output.map(|pipe| Outlet {
-            pipe,
-            line: Vec::new(),
-            file: match &plan.output {
-                Output::File(file) => open_output(file).ok(),
-                _ => None,
-            },
-        });
         Live {
             process,
             path,
@@ -91,18 +58,15 @@ impl Live {
             is_cut: false,
             kill_at: None,
             plan,
-            outlet,
+            outlet: spawned.outlet,
             notify: spawned.notify,
         }
     }
 
     /// Opens the file anew to which the daemon passes its output on. One that a process writes to by itself stays its own.
     pub fn reopen(&mut self) {
-        let Output::File(file) = &self.plan.output else { return };
-        if let Some(outlet) = &mut self.outlet
-            && let Ok(opened) = open_output(file)
-        {
-            outlet.file = Some(opened);
+        if let Some(outlet) = &mut self.outlet {
+            outlet.reopen(&self.plan);
         }
     }
 
@@ -127,104 +91,47 @@ impl Live {
         matches!(self.plan.ready, Ready::Start | Ready::After(_))
     }
 
-    /// The descriptors on which it tells something.
-    pub fn descriptors(&self) -> impl Iterator<Item = RawFd> {
-        let output = self.outlet.as_ref().map(|outlet| outlet.pipe.as_raw_fd());
-        let notify = self.notify.as_ref().map(std::os::fd::AsRawFd::as_raw_fd);
+    /// What is waited for: that it tells something, or that what it has told can be passed on.
+    pub fn waited(&self) -> impl Iterator<Item = Waited> {
+        let output = self.outlet.as_ref().and_then(Outlet::waited);
+        let notify = self.notify.as_ref().map(|pipe| Waited::new(pipe.as_raw_fd(), READABLE));
         output.into_iter().chain(notify)
     }
 
-    /// Reads what it has written.
-    pub fn read(&mut self) -> News {
-        let mut news = News::default();
-        self.read_notify(&mut news);
-        self.read_output(&mut news);
-        news
+    /// Reads what it has written; whether that tells that it is up. Once it has ended it is the last time.
+    pub fn read(&mut self, is_last: bool, room: &mut Room, tell: &mut dyn FnMut(&str, Heard<'_>)) -> bool {
+        let mut is_up = self.read_notify();
+        if let Some(outlet) = &mut self.outlet {
+            is_up |= outlet.take(is_last, room, &mut |heard| tell(&self.path, heard));
+            if outlet.is_over() {
+                self.outlet = None;
+            }
+        }
+        is_up
     }
 
-    fn read_notify(&mut self, news: &mut News) {
+    fn read_notify(&mut self) -> bool {
         let mut room = [0; 64];
         while let Some(pipe) = &self.notify {
             match os::read_once(pipe.as_fd(), &mut room) {
                 Ok(count) if count > 0 => {
                     if room[..count].contains(&b'\n') {
-                        news.is_up = matches!(self.stage, Stage::Starting(_));
                         self.notify = None;
+                        return true;
                     }
                 }
-                Err(error) if error.kind() == io::ErrorKind::WouldBlock => return,
+                Err(error) if error.kind() == io::ErrorKind::WouldBlock => return false,
                 Err(error) if error.kind() == io::ErrorKind::Interrupted => {}
                 // It has closed the descriptor, and can tell nothing more.
                 _ => self.notify = None,
             }
         }
+        false
     }
 
-    fn read_output(&mut self, news: &mut News) {
-        let mut room = [0; ROOM];
-        for _ in 0..READS {
-            let Some(outlet) = &mut self.outlet else {
-                return;
-            };
-            match os::read_once(outlet.pipe.as_fd(), &mut room) {
-                Ok(count) if count > 0 => self.take_output(&room[..count], news),
-                Err(error) if error.kind() == io::ErrorKind::WouldBlock => return,
-                Err(error) if error.kind() == io::ErrorKind::Interrupted => {}
-                _ => {
-                    self.end_line(news);
-                    self.outlet = None;
-                }
-            }
-        }
-    }
-
-    fn take_output(&mut self, bytes: &[u8], news: &mut News) {
-        self.pass_on(bytes);
-        for piece in bytes.split_inclusive(|&byte| byte == b'\n') {
-            let Some(outlet) = &mut self.outlet else {
-                return;
-            };
-            outlet.line.extend_from_slice(piece);
-            if piece.ends_with(b"\n") || outlet.line.len() >= LONGEST {
-                self.end_line(news);
-            }
-        }
-    }
-
-    /// Passes output on to where it goes. What can't be written without waiting is lost.
-    fn pass_on(&self, bytes: &[u8]) {
-        let write = |fd: BorrowedFd<'_>| {
-            if os::can_write(fd) {
-                let _ = os::write_once(fd, bytes);
-            }
-        };
-        match &self.plan.output {
-            Output::Inherit => write(io::stdout().as_fd()),
-            Output::File(_) => {
-                if let Some(file) = self.outlet.as_ref().and_then(|outlet| outlet.file.as_ref()) {
-                    write(file.as_fd());
-                }
-            }
-            Output::Null | Output::Log => {}
-        }
-    }
-
-    fn end_line(&mut self, news: &mut News) {
-        let Some(outlet) = &mut self.outlet else {
-            return;
-        };
-        if outlet.line.is_empty() {
-            return;
-        }
-        let line = std::mem::take(&mut outlet.line);
-        let line = String::from_utf8_lossy(&line);
-        let line = line.trim_end_matches(['\n', '\r']);
-        if let (Ready::Line(wanted), Stage::Starting(_)) = (&self.plan.ready, self.stage) {
-            news.is_up |= line.contains(wanted.as_str());
-        }
-        if self.plan.output == Output::Log {
-            news.lines.push(line.to_string());
-        }
+    /// What of its output is still to be written, once it has ended.
+    pub fn take_rest(&mut self) -> Option<Outlet> {
+        self.outlet.take()
     }
 
     /// With which reason the tree is told its end.

@@ -1,168 +1,43 @@
-//! The log: a line for each order, each event and each remark, as text or as JSON.
+//! The log: a line for each order, each event and each remark.
 //!
-//! No line is waited for. One that can't be written at once (a full disk, a pipe that nobody reads) is lost and counted, and
-//! the next line that is written says how many were.
+//! Lines are gathered and written together: at the end of each turn of the daemon, before a client is answered, or once there
+//! are 64 KiB of them. No line is waited for. One that can't be written then (a full disk, a pipe that nobody reads) is lost
+//! and counted, and the next line that is written says how many were. A line of which a part was written is ended later.
 
 use crate::os;
+use crate::record::{Calendar, Entry};
+pub use crate::record::{Class, Record, Said, quoted};
+use crate::sink::Sink;
 use std::collections::VecDeque;
-use std::fmt::Write;
 use std::fs::File;
-use std::io;
-use std::os::fd::{AsFd, BorrowedFd};
+use std::io::{self, Read, Seek, SeekFrom};
 use std::path::{Path, PathBuf};
-use std::time::{SystemTime, UNIX_EPOCH};
 
-/// So many lines are kept for `ctl tail`.
+/// So many lines are kept for `ctl tail`, of so many bytes together.
 const KEPT: usize = 1000;
-/// A line for people is cut after so many bytes.
-const LONGEST: usize = 4000;
-/// So many bytes a pipe takes at once, if it takes any.
-const PIECE: usize = 4096;
+const KEPT_BYTES: usize = 1024 * 1024;
+/// So many bytes are gathered at the most.
+const GATHERED: usize = 64 * 1024;
 
-/// What a line is about.
-#[derive(Clone, Copy, Debug, PartialEq, Eq)]
-pub enum Class {
-    /// The tree has ordered something.
-    Order,
-    /// Something has happened that the tree is told.
-    Event,
-    /// Anything else.
-    Remark,
+/// The last lines.
+#[derive(Debug, Default)]
+struct Kept {
+    lines: VecDeque<String>,
+    bytes: usize,
+    /// A line that isn't kept any more, whose room is.
+    spare: String,
 }
 
-impl Class {
-    fn as_str(self) -> &'static str {
-        match self {
-            Class::Order => "order",
-            Class::Event => "event",
-            Class::Remark => "remark",
+impl Kept {
+    fn push(&mut self, line: String) {
+        self.bytes += line.len();
+        self.lines.push_back(line);
+        while self.lines.len() > KEPT || self.bytes > KEPT_BYTES {
+            let Some(line) = self.lines.pop_front() else { return };
+            self.bytes -= line.len();
+            self.spare = line;
         }
     }
-}
-
-#[derive(Clone, Debug, PartialEq, Eq)]
-enum Field {
-    Text(String),
-    Number(u64),
-}
-
-/// A line before it is written.
-#[derive(Clone, Debug, PartialEq, Eq)]
-pub struct Record {
-    class: Class,
-    what: &'static str,
-    fields: Vec<(&'static str, Field)>,
-}
-
-impl Record {
-    /// A line of this class and kind.
-    pub fn new(class: Class, what: &'static str) -> Self {
-        Record { class, what, fields: Vec::new() }
-    }
-
-    /// With a text.
-    pub fn text(mut self, key: &'static str, text: impl Into<String>) -> Self {
-        self.fields.push((key, Field::Text(text.into())));
-        self
-    }
-
-    /// With a number.
-    pub fn number(mut self, key: &'static str, number: u64) -> Self {
-        self.fields.push((key, Field::Number(number)));
-        self
-    }
-
-    /// With a text, if there is one.
-    pub fn maybe(self, key: &'static str, text: Option<impl Into<String>>) -> Self {
-        match text {
-            Some(text) => self.text(key, text),
-            None => self,
-        }
-    }
-
-    /// For people: the time, seconds since the beginning, what, and the fields. What says itself what it is stands alone.
-    fn as_text(&self, time: &str, reading: u64) -> String {
-        let mut line = format!("{time} {:>4}.{:03} {:<5}", reading / 1000, reading % 1000, self.what);
-        for (key, field) in &self.fields {
-            let milliseconds = key.strip_suffix("_ms");
-            let _ = match (*key, field) {
-                ("supervisor", _) => Ok(()),
-                ("path", Field::Text(text)) if text.is_empty() => Ok(()),
-                ("path" | "reason" | "ended" | "answer" | "line", Field::Text(text)) => {
-                    write!(line, " {}", plain(text))
-                }
-                ("cause" | "text", Field::Text(text)) => write!(line, ": {}", plain(text)),
-                ("number", Field::Number(number)) => write!(line, " #{number}"),
-                (key, Field::Number(number)) => match milliseconds {
-                    Some(key) => write!(line, " {key} {number} ms"),
-                    None => write!(line, " {key} {number}"),
-                },
-                (key, Field::Text(text)) => write!(line, " {key} {}", plain(text)),
-            };
-        }
-        line.truncate(line.trim_end().len());
-        line
-    }
-
-    /// For machines: an object on one line.
-    fn as_json(&self, time: &str, reading: u64) -> String {
-        let class = self.class.as_str();
-        let mut line = format!("{{\"time\":\"{time}\",\"ms\":{reading},\"{class}\":\"{}\"", self.what);
-        for (key, field) in &self.fields {
-            let _ = match field {
-                Field::Text(text) => write!(line, ",\"{key}\":{}", quoted(text)),
-                Field::Number(number) => write!(line, ",\"{key}\":{number}"),
-            };
-        }
-        line.push('}');
-        line
-    }
-}
-
-/// A text without control characters.
-fn plain(text: &str) -> String {
-    let mut out = String::with_capacity(text.len());
-    for c in text.chars() {
-        if c.is_control() { out.extend(c.escape_default()) } else { out.push(c) }
-    }
-    out
-}
-
-/// A JSON string.
-pub fn quoted(text: &str) -> String {
-    let mut out = String::from("\"");
-    for c in text.chars() {
-        match c {
-            '"' | '\\' => out.extend(['\\', c]),
-            c if c.is_control() => {
-                let _ = write!(out, "\\u{:04x}", c as u32);
-            }
-            c => out.push(c),
-        }
-    }
-    out.push('"');
-    out
-}
-
-/// A time as `2026-11-26T14:02:03.123Z`.
-fn written(time: SystemTime) -> String {
-    let since = time.duration_since(UNIX_EPOCH).unwrap_or_default();
-    let (seconds, milliseconds) = (since.as_secs(), since.subsec_millis());
-    // The days are counted from 1 March of the year 0, so that a leap day ends a year.
-    let days = seconds / 86_400 + 719_468;
-    let (era, day) = (days / 146_097, days % 146_097);
-    let year = (day - day / 1460 + day / 36_524 - day / 146_096) / 365;
-    let day = day - (365 * year + year / 4 - year / 100);
-    let month = (5 * day + 2) / 153;
-    let (day, month) = (day - (153 * month + 2) / 5 + 1, if month < 10 { month + 3 } else { month - 9 });
-    let year = era * 400 + year + u64::from(month <= 2);
-    let (hour, minute, second) = (seconds / 3600 % 24, seconds / 60 % 60, seconds % 60);
-    format!("{year:04}-{month:02}-{day:02}T{hour:02}:{minute:02}:{second:02}.{milliseconds:03}Z")
-}
-
-enum Sink {
-    Errors(io::Stderr),
-    File(File),
 }
 
 /// Where the lines go, and those that are kept.
@@ -171,12 +46,21 @@ pub struct Log {
     /// The file's whole path, if the lines go to one.
     file: Option<PathBuf>,
     is_json: bool,
+    calendar: Calendar,
+    /// What isn't written yet.
+    pending: Vec<u8>,
+    /// So many bytes of it are the rest of a line whose beginning was written, and so long was the file then.
+    torn: usize,
+    size: Option<u64>,
+    /// So many lines weren't written, which no line has told.
     lost: u64,
-    /// The last line was written in part.
-    is_torn: bool,
-    kept: VecDeque<String>,
+    kept: Kept,
     /// Lines since they were last taken, for those that follow the log.
     fresh: Vec<String>,
+    /// Somebody follows it.
+    pub is_followed: bool,
+    /// The reading of the last line.
+    reading: u64,
 }
 
 impl Log {
@@ -184,110 +68,150 @@ impl Log {
     pub fn open(file: Option<&Path>, is_json: bool) -> io::Result<Self> {
         let file = file.map(std::path::absolute).transpose()?;
         let sink = match &file {
-            None => Sink::Errors(io::stderr()),
-            Some(file) => Sink::File(os::append_to(file)?),
+            None => Sink::errors(),
+            Some(file) => Sink::file(os::append_to(file)?),
         };
-        Ok(Log { sink, file, is_json, lost: 0, is_torn: false, kept: VecDeque::new(), fresh: Vec::new() })
+        // What was cut off in the middle of a line (by the end of the machine, say) gets an end.
+        let is_torn = file.as_ref().is_some_and(|file| ends_in_a_line(file).unwrap_or(false));
+        let pending = if is_torn { b"\n".to_vec() } else { Vec::new() };
+        let torn = pending.len();
+        Ok(Log { file, pending, torn, ..Log::to(sink, is_json) })
+    }
+
+    fn to(sink: Sink, is_json: bool) -> Self {
+        Log {
+            sink,
+            file: None,
+            is_json,
+            calendar: Calendar::default(),
+            pending: Vec::new(),
+            torn: 0,
+            size: None,
+            lost: 0,
+            kept: Kept::default(),
+            fresh: Vec::new(),
+            is_followed: false,
+            reading: 0,
+        }
     }
 
     /// Opens the file anew, so that whoever has renamed it gets a new one. Where that can't be had the old one is kept.
     /// Nothing is done, and `false` the answer, where the lines go to no file.
     pub fn reopen(&mut self) -> io::Result<bool> {
+        self.flush();
         let Some(file) = &self.file else { return Ok(false) };
-        self.sink = Sink::File(os::append_to(file)?);
-        self.is_torn = false;
+        self.sink = Sink::file(os::append_to(file)?);
+        // The rest of a line would stand alone in the new file.
+        if !self.pending.is_empty() {
+            self.pending.clear();
+            (self.torn, self.size) = (0, None);
+            self.lost = self.lost.saturating_add(1);
+        }
         Ok(true)
     }
 
-    /// Writes a line, at this reading of the clock (milliseconds since the beginning).
-    pub fn tell(&mut self, reading: u64, record: &Record) {
-        let time = written(SystemTime::now());
-        let mut line = if self.is_json { record.as_json(&time, reading) } else { record.as_text(&time, reading) };
-        if line.len() > LONGEST && !self.is_json {
-            let end = (0..=LONGEST).rev().find(|&end| line.is_char_boundary(end)).unwrap_or(0);
-            line.truncate(end);
+    /// Adds a line, at this reading of the clock (milliseconds since the beginning).
+    pub fn tell(&mut self, reading: u64, entry: &impl Entry) {
+        self.reading = reading;
+        let mut line = std::mem::take(&mut self.kept.spare);
+        line.clear();
+        self.add(reading, entry, &mut line);
+        self.pending.extend_from_slice(line.as_bytes());
+        self.pending.push(b'\n');
+        if self.is_followed {
+            self.fresh.push(line.clone());
         }
-        self.write(&line);
-        if self.kept.len() >= KEPT {
-            self.kept.pop_front();
+        self.kept.push(line);
+        if self.pending.len() >= GATHERED {
+            self.flush();
         }
-        self.kept.push_back(line.clone());
-        self.fresh.push(line);
     }
 
-    /// Writes a line in pieces that a pipe takes without waiting, as far as they can be written at once.
-    fn write(&mut self, line: &str) {
-        let torn = if self.is_torn { "\n" } else { "" };
-        let head = match self.lost {
-            0 => String::new(),
-            lost if self.is_json => format!("{{\"remark\":\"lost\",\"lines\":{lost}}}\n"),
-            lost => format!("lost {lost} lines\n"),
+    fn add(&mut self, reading: u64, entry: &impl Entry, line: &mut String) {
+        let time = self.calendar.now();
+        if self.is_json { entry.add_json(time, reading, line) } else { entry.add_text(time, reading, line) }
+    }
+
+    /// Writes what was gathered, as far as it can be written at once.
+    pub fn flush(&mut self) {
+        // The rest of a line is written with the next one: what refuses it now would refuse it again and again.
+        if self.pending.len() == self.torn {
+            return;
+        }
+        self.look_at_rest();
+        let mut head = String::new();
+        if self.lost > 0 {
+            let lost = Record::new(Class::Remark, "lost").number("lines", self.lost);
+            self.add(self.reading, &lost, &mut head);
+            head.push('\n');
+            self.pending.splice(self.torn..self.torn, head.bytes());
+        }
+        let (written, _) = self.sink.write(&self.pending);
+        self.keep_from(written, self.torn + head.len());
+        self.size = if self.torn > 0 { self.sink.size() } else { None };
+    }
+
+    /// The rest of a line is of no use to a file that was emptied meanwhile.
+    fn look_at_rest(&mut self) {
+        if self.size.is_some_and(|size| self.sink.size().is_some_and(|now| now < size)) {
+            self.pending.drain(..self.torn);
+            self.torn = 0;
+            self.lost = self.lost.saturating_add(1);
+        }
+    }
+
+    /// So much was written. Of what is left the rest of a line is kept; the lines behind it are lost. The gathered lines begin
+    /// at `lines`: in front of them stands what tells of lost ones.
+    fn keep_from(&mut self, written: usize, lines: usize) {
+        let behind = &self.pending[written..];
+        let rest = match behind.iter().position(|&byte| byte == b'\n') {
+            _ if written < self.torn => self.torn,
+            Some(end) if written > 0 && self.pending[written - 1] != b'\n' => written + end + 1,
+            _ => written,
         };
-        let text = format!("{torn}{head}{line}\n");
-        let fd = self.fd();
-        let mut written = 0;
-        while written < text.len() && os::can_write(fd) {
-            let end = text.len().min(written + PIECE);
-            match os::write_once(fd, &text.as_bytes()[written..end]) {
-                Ok(count) if count > 0 => written += count,
-                _ => break,
-            }
+        if written > self.torn {
+            self.lost = 0;
         }
-        let is_whole = written == text.len();
-        if is_whole || written > 0 {
-            self.is_torn = !is_whole;
-        }
-        self.lost = if is_whole { 0 } else { self.lost.saturating_add(1) };
-    }
-
-    fn fd(&self) -> BorrowedFd<'_> {
-        match &self.sink {
-            Sink::Errors(errors) => errors.as_fd(),
-            Sink::File(file) => file.as_fd(),
-        }
+        let lost = self.pending[rest.max(lines)..].split_inclusive(|&byte| byte == b'\n').count() as u64;
+        self.lost = self.lost.saturating_add(lost);
+        self.pending.truncate(rest);
+        self.pending.drain(..written);
+        self.torn = self.pending.len();
     }
 
     /// The last lines, the newest last.
     pub fn last(&self, count: usize) -> impl Iterator<Item = &str> {
-        self.kept.iter().skip(self.kept.len().saturating_sub(count)).map(String::as_str)
+        let lines = &self.kept.lines;
+        lines.iter().skip(lines.len().saturating_sub(count)).map(String::as_str)
     }
 
-    /// The lines since this was last asked.
+    /// The lines since this was last asked, if the log is followed.
     pub fn take_fresh(&mut self) -> Vec<String> {
         std::mem::take(&mut self.fresh)
     }
 }
 
+/// Whether the last line of a file has no end.
+fn ends_in_a_line(file: &Path) -> io::Result<bool> {
+    if !std::fs::metadata(file)?.is_file() {
+        return Ok(false);
+    }
+    let mut file = File::open(file)?;
+    if file.seek(SeekFrom::End(0))? == 0 {
+        return Ok(false);
+    }
+    file.seek(SeekFrom::End(-1))?;
+    let mut last = [0];
+    file.read_exact(&mut last)?;
+    Ok(last != *b"\n")
+}
+
 #[cfg(test)]
 mod tests {
     use super::*;
-    use std::time::Duration;
 
-    #[test]
-    fn times_are_those_of_the_calendar() {
-        for (seconds, text) in [
-            (0, "1970-01-01T00:00:00.000Z"),
-            (951_782_399, "2000-02-28T23:59:59.000Z"),
-            (951_782_400, "2000-02-29T00:00:00.000Z"),
-            (951_868_800, "2000-03-01T00:00:00.000Z"),
-            (1_735_689_599, "2024-12-31T23:59:59.000Z"),
-            (4_107_542_400, "2100-03-01T00:00:00.000Z"),
-        ] {
-            assert_eq!(written(UNIX_EPOCH + Duration::from_secs(seconds)), text);
-        }
-    }
-
-    #[test]
-    fn a_line_has_both_forms() {
-        let record = Record::new(Class::Order, "start").text("path", "pool/a").number("number", 5).number("pid", 9);
-        assert_eq!(record.as_text("T", 1204), "T    1.204 start pool/a #5 pid 9");
-        assert_eq!(
-            record.as_json("T", 1204),
-            "{\"time\":\"T\",\"ms\":1204,\"order\":\"start\",\"path\":\"pool/a\",\"number\":5,\"pid\":9}"
-        );
-        let record = Record::new(Class::Remark, "x").text("why", "a\"\n\\b");
-        assert_eq!(record.as_text("T", 0), "T    0.000 x     why a\"\\n\\b");
-        assert_eq!(record.as_json("T", 0), "{\"time\":\"T\",\"ms\":0,\"remark\":\"x\",\"why\":\"a\\\"\\u000a\\\\b\"}");
+    fn x() -> Record {
+        Record::new(Class::Remark, "x").text("text", "some words, so that a line has a length")
     }
 
     #[test]
@@ -301,13 +225,21 @@ mod tests {
         log.tell(1, &Record::new(Class::Remark, "between"));
         assert!(log.reopen().unwrap());
         log.tell(2, &Record::new(Class::Remark, "after"));
+        log.flush();
         let (old, new) = (std::fs::read_to_string(&old).unwrap(), std::fs::read_to_string(&file).unwrap());
         assert!(old.contains("before") && old.contains("between") && !old.contains("after"), "{old}");
         assert!(new.contains("after") && new.lines().count() == 1, "{new}");
+        // What ends in the middle of a line gets an end.
+        std::fs::write(&file, "torn").unwrap();
+        let mut log = Log::open(Some(&file), false).unwrap();
+        log.tell(0, &x());
+        log.flush();
+        assert!(std::fs::read_to_string(&file).unwrap().starts_with("torn\n2"));
         std::fs::remove_dir_all(&folder).unwrap();
         // Where it can't be opened the old one stays.
         assert!(log.reopen().is_err());
-        log.tell(3, &Record::new(Class::Remark, "later"));
+        log.tell(3, &x());
+        log.flush();
         assert_eq!(log.lost, 0);
         assert!(!Log::open(None, false).unwrap().reopen().unwrap());
     }
@@ -315,9 +247,52 @@ mod tests {
     #[test]
     fn a_full_disk_loses_lines_alone_and_counts_them() {
         let mut log = Log::open(Some(Path::new("/dev/full")), false).unwrap();
+        log.is_followed = true;
         for number in 0..3 {
-            log.tell(number, &Record::new(Class::Remark, "x"));
+            log.tell(number, &x());
+            log.flush();
         }
         assert_eq!((log.lost, log.last(10).count(), log.take_fresh().len()), (3, 3, 3));
+    }
+
+    #[test]
+    fn what_a_pipe_takes_is_whole_lines_and_the_others_are_counted() {
+        let (mut reader, writer) = io::pipe().unwrap();
+        os::never_wait(std::os::fd::AsFd::as_fd(&reader)).unwrap();
+        let mut log = Log::to(Sink::file(File::from(std::os::fd::OwnedFd::from(writer))), true);
+        let (mut text, mut told) = (Vec::new(), 0u64);
+        for round in 0..5 {
+            // More than the pipe takes, so that a line is written in part.
+            for _ in 0..2000 {
+                log.tell(round, &x());
+                told += 1;
+            }
+            log.flush();
+            assert!(log.lost > 0);
+            let _ = reader.read_to_end(&mut text);
+        }
+        log.tell(9, &x());
+        log.flush();
+        let _ = reader.read_to_end(&mut text);
+        let text = String::from_utf8(text).unwrap();
+        let (mut lines, mut lost) = (0, 0);
+        for line in text.lines() {
+            assert!(line.starts_with("{\"time\":\"") && line.ends_with('}'), "{line}");
+            match line.split_once("\"lines\":") {
+                Some((_, count)) => lost += count.trim_end_matches('}').parse::<u64>().unwrap(),
+                None => lines += 1,
+            }
+        }
+        assert_eq!((lines + lost, log.lost), (told + 1, 0));
+    }
+
+    #[test]
+    fn what_is_kept_is_bounded_in_bytes_too() {
+        let mut log = Log::to(Sink::file(os::append_to(Path::new("/dev/null")).unwrap()), true);
+        let said = "x".repeat(8192);
+        for _ in 0..2000 {
+            log.tell(0, &Said { path: "a", number: 1, line: &said, part: None });
+        }
+        assert!(log.last(5000).map(str::len).sum::<usize>() <= KEPT_BYTES && log.last(5000).count() > 100);
     }
 }

@@ -245,12 +245,6 @@ pub fn wait(waited: &mut [Waited], time: Option<Duration>) -> io::Result<()> {
     }
 }
 
-/// Whether a write of at most 4,096 bytes to this pipe, socket, terminal or file would not wait.
-pub fn can_write(fd: BorrowedFd<'_>) -> bool {
-    let mut waited = [Waited::new(fd.as_raw_fd(), WRITABLE)];
-    wait(&mut waited, Some(Duration::ZERO)).is_ok() && waited[0].is_writable()
-}
-
 /// Writes once, and says how many bytes were taken.
 pub fn write_once(fd: BorrowedFd<'_>, bytes: &[u8]) -> io::Result<usize> {
     // SAFETY: the pointer and the length are those of one slice.

@@ -2,6 +2,7 @@
 
 use crate::mark;
 use crate::os;
+use crate::outlet::Outlet;
 use crate::plan::{Output, Plan, Ready};
 use crate::program;
 use otp_embed::Reason;
@@ -19,7 +20,7 @@ pub struct Spawned {
     /// Its number in the system, which is also that of its group.
     pub pid: i32,
     /// Its output and errors, where the daemon reads them.
-    pub output: Option<PipeReader>,
+    pub outlet: Option<Outlet>,
     /// On this it tells that it is up.
     pub notify: Option<PipeReader>,
 }
@@ -47,7 +48,7 @@ pub fn spawn(plan: &Plan, path: &str, number: u64, mark: &OsStr) -> Result<Spawn
     }
     let mut command = command_of(plan, path, number);
     command.env(mark::VARIABLE, mark);
-    let output = give_output(plan, &mut command)?;
+    let outlet = give_output(plan, &mut command)?;
     let (notify, told) = if let Ready::Notify(to) = plan.ready {
         let (mine, theirs) = pipe()?;
         os::prepare_child(&mut command, Some((theirs.as_raw_fd(), to)));
@@ -62,7 +63,7 @@ pub fn spawn(plan: &Plan, path: &str, number: u64, mark: &OsStr) -> Result<Spawn
     drop(command);
     let pid = i32::try_from(child.id()).unwrap_or(0);
     // The handle is forgotten: the daemon reaps by number.
-    Ok(Spawned { pid, output, notify })
+    Ok(Spawned { pid, outlet, notify })
 }
 
 fn command_of(plan: &Plan, path: &str, number: u64) -> Command {
@@ -82,12 +83,12 @@ fn command_of(plan: &Plan, path: &str, number: u64) -> Command {
 }
 
 /// Says where the output goes. It comes through a pipe where the daemon has to read it.
-fn give_output(plan: &Plan, command: &mut Command) -> Result<Option<PipeReader>, NotStarted> {
+fn give_output(plan: &Plan, command: &mut Command) -> Result<Option<Outlet>, NotStarted> {
     if plan.output == Output::Log || matches!(plan.ready, Ready::Line(_)) {
         let (mine, theirs) = pipe()?;
         let other = theirs.try_clone().map_err(|error| no_pipe(&error))?;
         command.stdout(theirs).stderr(other);
-        return Ok(Some(mine));
+        return Outlet::new(mine, plan).map(Some);
     }
     match &plan.output {
         Output::Null => drop(command.stdout(Stdio::null()).stderr(Stdio::null())),
