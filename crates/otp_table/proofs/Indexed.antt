@@ -16,14 +16,14 @@ use Rattle.otp_table.specs.declared.row.Row.{Row}
 use Rattle.otp_table.specs.declared.row.RowState.{RowState}
 use Rattle.otp_table.specs.declared.row.RowState.TheVariants.{Undefined, Starting, Up, Asked, Killed, Restarting}
 use Rattle.otp_table.specs.Keys.{fingerprint, id_key, print_if, print_of}
-use Rattle.otp_table.specs.Marks.{AreMarks, IsChanged, IsGone, IsPut, IsTaken, IsUnder, Rises, key_at, moved, number_at, number_key}
+use Rattle.otp_table.specs.Marks.{AreMarks, IsChanged, IsGone, IsPut, IsTaken, IsUnder, Rises, key_at, moved, number_key}
 use Rattle.otp_table.specs.Rows.{awaits_retry, has_id, has_number, has_process, number_of, row_has}
 use Rattle.otp_table.proofs.Rising.{moved_under, same_place, shifted, under_moved}
 
-none_some : (n : ℕ) → ◌≡◌ {A = Option ℕ} None (Some n) → ⊥
+pub none_some : (n : ℕ) → ◌≡◌ {A = Option ℕ} None (Some n) → ⊥
 none_some n e = subst (λ (o : Option ℕ). MatchOption o ⊤ (λ _. ⊥)) e tt
 
-some_is : (n m : ℕ) → ◌≡◌ {A = Option ℕ} (Some n) (Some m) → n ≡ m
+pub some_is : (n m : ℕ) → ◌≡◌ {A = Option ℕ} (Some n) (Some m) → n ≡ m
 some_is n m e = ap (λ (o : Option ℕ). unwrap_or o 0) e
 
 pub same_or : (p q : ℕ) → (p ≡ q) ⊎ (p ≡ q → ⊥)
@@ -265,7 +265,7 @@ pub id_tells : (id : Name) → Tells id_key (has_id id) (fingerprint id)
 id_tells id row e = id_if id row.id e
 
 -- a state that has the number passes the test for it
-numbered_passes : (n : ℕ) (s : RowState) → number_of s ≡ Some n → has_number n s ≡ true
+pub numbered_passes : (n : ℕ) (s : RowState) → number_of s ≡ Some n → has_number n s ≡ true
 numbered_passes n Undefined e = absurd (none_some n e)
 numbered_passes n (Starting p k) e = eq-eqb p n (some_is p n e)
 numbered_passes n (Up p) e = eq-eqb p n (some_is p n e)
@@ -275,11 +275,6 @@ numbered_passes n (Restarting k) e = eq-eqb k n (some_is k n e)
 
 pub marked_within : (key : Row → Option ℕ) (n p : ℕ) (rows : List Row) (ms : List Mark) → AreMarks (key_at key rows) ms → IsUnder n p ms → p < length rows
 marked_within key n p rows ms are under = key_within key rows p n ((are n p).0 under)
-
-pub marked_passes : (n p : ℕ) (rows : List Row) (ms : List Mark) (d : Row) → AreMarks (number_at rows) ms → IsUnder n p ms → has_number n (get_or rows p d).state ≡ true
-marked_passes n p rows ms d are under =
-    let has : number_at rows p ≡ Some n = (are n p).0 under in
-    numbered_passes n (get_or rows p d).state (sym (key_get number_key rows p d (key_within number_key rows p n has)) ∙ has)
 
 -- the marks of rows with one more, the last
 pub pushed_marks : (key : Row → Option ℕ) (rows all : List Row) (row : Row) (p : ℕ) (new : Option ℕ) (before after : List Mark) → all ≡ rows ++ row ∷ [] → p ≡ length rows → new ≡ key row → AreMarks (key_at key rows) before

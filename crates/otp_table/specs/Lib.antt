@@ -1,6 +1,7 @@
 pub mod Rows
 pub mod Keys
 pub mod Marks
+pub mod Numbers
 pub mod Table
 pub mod TableInside
 pub mod Counted

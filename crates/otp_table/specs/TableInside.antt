@@ -2,6 +2,7 @@ use Rattle.std.specs.Prelude.{◌+◌, ◌≤◌, IsTrue, vec_len, vec_capacity}
 use Rattle.otp_spec.specs.declared.limits.TheConstants.{MAX_CHILDREN}
 use Rattle.otp_table.specs.Counted.{AreCounted}
 use Rattle.otp_table.specs.Marks.{AreMarks, Rises, id_at, number_at}
+use Rattle.otp_table.specs.Numbers.{AreApart, AreWithin}
 use Rattle.otp_table.specs.Rows.{AreDefined}
 use Rattle.otp_table.specs.Table.{Table}
 use Rattle.otp_table.specs.declared.rows.Rows.TheInside.{Inside}
@@ -17,13 +18,13 @@ pub record IsTable (t : Inside) : Type 0 where
   pub counted : AreCounted t.counts t.items.items
   -- none of the first is undefined
   pub defined : AreDefined t.defined t.items.items
-  -- the room is there for the marks of all rows too
-  pub marks_room : vec_len t.items + t.room ≤ vec_capacity t.marks
-  -- the marks are in the order of the numbers
-  pub rises : Rises t.marks.items
-  -- and tell of exactly the rows that have a number, each once
-  pub marked : IsTrue t.is_marked → AreMarks (number_at t.items.items) t.marks.items
-  -- the same of the marks of the ids
+  -- no row has a number above the greatest
+  pub within : AreWithin t.greatest (number_at t.items.items)
+  -- and no two have one
+  pub apart : IsTrue t.is_apart → AreApart (number_at t.items.items)
+  -- the room is there for the marks of all rows' ids too
   pub ids_room : vec_len t.items + t.room ≤ vec_capacity t.ids
+  -- the marks are in the order of the ids' fingerprints
   pub ids_rise : Rises t.ids.items
+  -- and tell of exactly the rows that have an id, each once
   pub named : IsTrue t.is_named → AreMarks (id_at t.items.items) t.ids.items

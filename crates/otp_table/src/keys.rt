@@ -1,4 +1,4 @@
-//! The keys by which rows are marked: their numbers, and the fingerprints of their ids.
+//! The keys of rows: their numbers, and the fingerprints of their ids, by which they are marked.
 
 ghost use Rattle.std.specs.Prelude.{◌≡◌, ◌<◌, length};
 ghost use Rattle.otp_reason.specs.Names.{name_bytes};

@@ -2,8 +2,10 @@
 #![tactic(auto)]
 
 mod counts;
+mod hints;
 mod keys;
 mod marks;
+mod numbers;
 pub mod row;
 pub mod rows;
 mod search;

@@ -1,5 +1,5 @@
-//! Rows by a key, which is their number or the fingerprint of their id: an index that is kept in the order of the keys
-//! and searched by halving.
+//! Rows by a key, which is the fingerprint of their id: an index that is kept in the order of the keys and searched by
+//! halving.
 
 ghost use Rattle.std.specs.Prelude.{◌≡◌, ◌+◌, ◌-◌, ◌<◌, ◌≤◌, ◌↔◌, ℕ, [], All, AllPairs, IfSome, IsTrue, None, Some, MatchOption, OnOk, OnErr, get_or, length, max, map, vec_len, vec_capacity};
 ghost use Rattle.otp_table.specs.Marks.{HasKey, IsChanged, IsFree, IsGone, IsPut, IsTaken, IsUnder, Rises, moved};
@@ -19,8 +19,8 @@ fn is_above(marks: &[Mark], key: u64) -> bool
     marks.is_empty() || marks[marks.len() - 1].key < key
 }
 
-/// The first place from which on the keys, which rise, are this one or above it. A key that is above them all, as the number
-/// of a child that is started, belongs at the end and is not searched for.
+/// The first place from which on the keys, which rise, are this one or above it. A key that is above them all belongs at the
+/// end and is not searched for.
 pub fn first_from(marks: &[Mark], key: u64) -> usize
     requires { Rises marks.now }
     ensures inside { result ≤ length marks.now }
@@ -40,8 +40,7 @@ fn is_last(marks: &[Mark], key: u64) -> bool
     !marks.is_empty() && marks[marks.len() - 1].key == key
 }
 
-/// Where the mark with this key stands. That of the newest process is the last: a child that comes up, or ends in the reverse
-/// order of starts, is not searched for.
+/// Where the mark with this key stands. The last is looked at first.
 fn index_of(marks: &[Mark], key: u64) -> Option<usize>
     requires { Rises marks.now }
     ensures { MatchOption result ((p : ℕ) → IsUnder key p marks.now → ⊥) (λ i. HasKey key i marks.now) }
@@ -179,7 +178,7 @@ fn put_new(marks: &mut Vec<Mark>, place: usize, new: Option<u64>) -> bool
 }
 
 /// Whether these are the same key, or none both times.
-fn is_same(one: Option<u64>, other: Option<u64>) -> bool
+pub fn is_same(one: Option<u64>, other: Option<u64>) -> bool
     ensures { IsTrue result ↔ (one ≡ other) }
 {
     match (one, other) {

@@ -4,8 +4,10 @@ ghost use Rattle.std.specs.List.{list_any};
 ghost use Rattle.otp_table.specs.declared.row.Row.{Row};
 
 use crate::counts::{Counts, counts_as, counts_with, counts_without};
+use crate::hints::Hints;
 use crate::keys::{id_in, id_key, number_in};
 use crate::marks::{Mark, change_mark, remove_mark};
+use crate::numbers::{greatest_with, stay_apart};
 use crate::row::{Row, RowState};
 use crate::search;
 use otp_reason::Name;
@@ -23,10 +25,12 @@ pub struct Rows {
     counts: Counts,
     /// So many rows, the first, are not undefined.
     defined: usize,
-    /// The places of the rows that have a number, in the order of these.
-    marks: Vec<Mark>,
-    /// Whether no two rows have had the same number, so that `marks` has the place of each.
-    is_marked: bool,
+    /// Where the row with a number stands most likely.
+    hints: Hints,
+    /// No row has a greater number.
+    greatest: u64,
+    /// Whether no two rows have had the same number, so that one that has it is the first.
+    is_apart: bool,
     /// The places of the rows that have an id, in the order of the ids' fingerprints.
     ids: Vec<Mark>,
     /// Whether no two rows have had ids of the same fingerprint, so that `ids` has the place of each.
@@ -56,8 +60,9 @@ impl Rows {
             room: 0,
             counts: Counts::new(),
             defined: 0,
-            marks: Vec::new(alloc),
-            is_marked: true,
+            hints: Hints::new(alloc),
+            greatest: 0,
+            is_apart: true,
             ids: Vec::new(alloc),
             is_named: true,
         }
@@ -184,8 +189,8 @@ impl Rows {
     pub fn find_number(&self, number: u64) -> Option<usize>
         ensures { result ≡ position (row_has (has_number number)) self.now.rows }
     {
-        if self.is_marked {
-            search::number_marked(&self.items, &self.marks, number)
+        if self.is_apart {
+            search::number_near(&self.items, self.hints.get(number), number)
         } else {
             search::find_number(&self.items, number)
         }
@@ -195,8 +200,8 @@ impl Rows {
     pub fn find_process(&self, number: u64) -> Option<usize>
         ensures { result ≡ position (row_has (has_process number)) self.now.rows }
     {
-        if self.is_marked {
-            search::process_marked(&self.items, &self.marks, number)
+        if self.is_apart {
+            search::process_near(&self.items, self.hints.get(number), number)
         } else {
             search::find_process(&self.items, number)
         }
@@ -206,8 +211,8 @@ impl Rows {
     pub fn find_retry(&self, number: u64) -> Option<usize>
         ensures { result ≡ position (row_has (awaits_retry number)) self.now.rows }
     {
-        if self.is_marked {
-            search::retry_marked(&self.items, &self.marks, number)
+        if self.is_apart {
+            search::retry_near(&self.items, self.hints.get(number), number)
         } else {
             search::find_retry(&self.items, number)
         }
@@ -228,7 +233,7 @@ impl Rows {
         ensures err { OnErr result (self.new ≡ self.old) }
     {
         self.items.reserve(n)?;
-        reserve_marks(&mut self.marks, self.items.len().saturating_add(n))?;
+        self.hints.reserve(self.items.len().saturating_add(n))?;
         reserve_marks(&mut self.ids, self.items.len().saturating_add(n))?;
         self.room = self.room.max(n);
         Ok(())
@@ -249,13 +254,17 @@ impl Rows {
         }
         self.counts = counts_with(&self.items, self.counts, &row);
         self.defined = self.defined.min(self.items.len());
-        self.is_marked = change_mark(
-            &mut self.marks,
-            self.is_marked,
+        let number = row.state.number();
+        self.is_apart = stay_apart(
+            &self.items,
+            self.is_apart,
+            self.greatest,
             self.items.len(),
             None,
-            row.state.number(),
+            number,
         );
+        self.greatest = greatest_with(self.greatest, number);
+        self.hints.note(number, self.items.len());
         self.is_named = change_mark(
             &mut self.ids,
             self.is_named,
@@ -278,14 +287,18 @@ impl Rows {
     {
         self.counts = counts_as(&self.items, self.counts, place, state);
         self.defined = defined_after(self.defined, place, state, self.counts.undefined);
-        let number = number_in(&self.items, place);
-        self.is_marked = change_mark(
-            &mut self.marks,
-            self.is_marked,
+        let old = number_in(&self.items, place);
+        let number = state.number();
+        self.is_apart = stay_apart(
+            &self.items,
+            self.is_apart,
+            self.greatest,
             place,
+            old,
             number,
-            state.number(),
         );
+        self.greatest = greatest_with(self.greatest, number);
+        self.hints.note(number, place);
         self.items[place].state = state;
     }
 
@@ -327,8 +340,6 @@ impl Rows {
     {
         self.counts = counts_without(&self.items, self.counts, place);
         self.defined = defined_without(self.defined, place);
-        let number = number_in(&self.items, place);
-        remove_mark(&mut self.marks, place, number);
         let id = id_in(&self.items, place);
         remove_mark(&mut self.ids, place, id);
         self.items.remove(place)
@@ -342,8 +353,8 @@ impl Rows {
         self.items.clear();
         self.counts = Counts::new();
         self.defined = 0;
-        self.marks.clear();
-        self.is_marked = true;
+        self.greatest = 0;
+        self.is_apart = true;
         self.ids.clear();
         self.is_named = true;
     }

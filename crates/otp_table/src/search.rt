@@ -3,6 +3,8 @@
 ghost use Rattle.std.specs.Prelude.{◌≡◌, ◌<◌, ◌≤◌, ℕ, false, get_or, length, position};
 ghost use Rattle.std.specs.List.{list_any};
 ghost use Rattle.otp_table.specs.Marks.{AreMarks, Rises, id_at, number_at};
+ghost use Rattle.otp_table.specs.Numbers.{AreApart};
+ghost use Rattle.otp_table.specs.declared.row.Row.{Row};
 ghost use Rattle.otp_table.specs.Rows.{awaits_retry, free_slot, has_id, has_number, has_process, has_slot, row_has, slot_of};
 
 use crate::keys::fingerprint;
@@ -23,6 +25,13 @@ pub fn find_number(rows: &[Row], number: u64) -> Option<usize>
     ensures { result ≡ position (row_has (has_number number)) rows.now }
 {
     rows.iter().position(|row| row.state.has_number(number))
+}
+
+/// Whether a row's process, or waiting retry, has this number.
+pub fn has_number(rows: &[Row], number: u64) -> bool
+    ensures { result ≡ list_any (row_has (has_number number)) rows.now }
+{
+    rows.iter().any(|row| row.state.has_number(number))
 }
 
 /// The place of the first row whose process has this number.
@@ -64,16 +73,11 @@ pub fn id_marked(rows: &[Row], marks: &[Mark], id: &Name) -> Option<usize>
     }
 }
 
-/// The place of the row whose process, or waiting retry, has this number, by the marks.
-pub fn number_marked(rows: &[Row], marks: &[Mark], number: u64) -> Option<usize>
-    requires rises { Rises marks.now }
-    requires marks { AreMarks (number_at rows.now) marks.now }
-    ensures { result ≡ position (row_has (has_number number)) rows.now }
+fn has_number_at(rows: &[Row], place: usize, number: u64) -> bool
+    requires { place < length rows.now }
+    ensures { (d : Row) → result ≡ has_number number (get_or rows.now place d).state }
 {
-    match find_mark(marks, number) {
-        None => None,
-        Some(place) => Some(place),
-    }
+    rows[place].state.has_number(number)
 }
 
 fn has_process_at(rows: &[Row], place: usize, number: u64) -> bool
@@ -90,39 +94,40 @@ fn awaits_retry_at(rows: &[Row], place: usize, number: u64) -> bool
     rows[place].state.awaits_retry(number)
 }
 
-/// The place of the row whose process has this number, by the marks.
-pub fn process_marked(rows: &[Row], marks: &[Mark], number: u64) -> Option<usize>
-    requires rises { Rises marks.now }
-    requires marks { AreMarks (number_at rows.now) marks.now }
-    ensures { result ≡ position (row_has (has_process number)) rows.now }
+/// The place of the row whose process, or waiting retry, has this number, where no two rows have one. The given place is looked
+/// at first.
+pub fn number_near(rows: &[Row], place: usize, number: u64) -> Option<usize>
+    requires { AreApart (number_at rows.now) }
+    ensures { result ≡ position (row_has (has_number number)) rows.now }
 {
-    match find_mark(marks, number) {
-        None => None,
-        Some(place) => {
-            if has_process_at(rows, place, number) {
-                Some(place)
-            } else {
-                None
-            }
-        }
+    if place < rows.len() && has_number_at(rows, place, number) {
+        Some(place)
+    } else {
+        find_number(rows, number)
     }
 }
 
-/// The place of the row that waits for the retry of this number, by the marks.
-pub fn retry_marked(rows: &[Row], marks: &[Mark], number: u64) -> Option<usize>
-    requires rises { Rises marks.now }
-    requires marks { AreMarks (number_at rows.now) marks.now }
+/// The place of the row whose process has this number, found alike.
+pub fn process_near(rows: &[Row], place: usize, number: u64) -> Option<usize>
+    requires { AreApart (number_at rows.now) }
+    ensures { result ≡ position (row_has (has_process number)) rows.now }
+{
+    if place < rows.len() && has_process_at(rows, place, number) {
+        Some(place)
+    } else {
+        find_process(rows, number)
+    }
+}
+
+/// The place of the row that waits for the retry of this number, found alike.
+pub fn retry_near(rows: &[Row], place: usize, number: u64) -> Option<usize>
+    requires { AreApart (number_at rows.now) }
     ensures { result ≡ position (row_has (awaits_retry number)) rows.now }
 {
-    match find_mark(marks, number) {
-        None => None,
-        Some(place) => {
-            if awaits_retry_at(rows, place, number) {
-                Some(place)
-            } else {
-                None
-            }
-        }
+    if place < rows.len() && awaits_retry_at(rows, place, number) {
+        Some(place)
+    } else {
+        find_retry(rows, number)
     }
 }
 

@@ -7,7 +7,8 @@ use Rattle.otp_table.specs.Table.{Table}
 use Rattle.otp_table.specs.Counted.{AreCounted}
 use Rattle.otp_table.specs.declared.row.Row.{Row}
 use Rattle.otp_table.specs.Keys.{id_key}
-use Rattle.otp_table.specs.Marks.{id_at, number_at, number_key}
+use Rattle.otp_table.specs.Marks.{id_at}
+use Rattle.otp_table.proofs.Differing.{removed_apart, removed_within}
 use Rattle.otp_table.proofs.Indexed.{removed_marks}
 use Rattle.otp_table.proofs.Defined.{removed_defined}
 use Rattle.otp_table.proofs.rows.Rows.remove.Goals as goal
@@ -19,14 +20,12 @@ invariant_of-self c =
       limit = search rules;
       counted = subst (AreCounted c.counts_without-self-inside.result) (sym c.remove.ensures.items) (subst (λ (xs : List Row). AreCounted c.counts_without-self-inside.result (remove xs c.args.place)) c.deref.ensures.value c.counts_without-self-inside.ensures);
       defined = removed_defined c.self.inside.items.items c.remove.new.self.items c.args.place c.self.inside.defined _ c.remove.ensures.items (search rules) c.self.invariant.defined c.defined_without-self-inside.ensures.less c.defined_without-self-inside.ensures.gone;
-      marks_room = search rules;
-      rises = c.remove_mark.ensures.rises;
-      marked = λ yes. removed_marks number_key c.self.inside.items.items _ c.args.place _ c.self.inside.marks.items _ c.remove.ensures.items (c.number_in-number.ensures ∙ ap (λ (xs : List Row). number_at xs c.args.place) c.deref-2.ensures.value)
-          (c.self.invariant.marked yes) c.remove_mark.ensures.gone;
+      within = removed_within c.self.inside.items.items _ c.args.place c.self.inside.greatest c.remove.ensures.items c.self.invariant.within;
+      apart = λ w. removed_apart c.self.inside.items.items _ c.args.place c.remove.ensures.items (c.self.invariant.apart w);
       ids_room = search rules;
-      ids_rise = c.remove_mark-2.ensures.rises;
-      named = λ yes. removed_marks id_key c.self.inside.items.items _ c.args.place _ c.self.inside.ids.items _ c.remove.ensures.items (c.id_in-id.ensures ∙ ap (λ (xs : List Row). id_at xs c.args.place) c.deref-3.ensures.value)
-          (c.self.invariant.named yes) c.remove_mark-2.ensures.gone;
+      ids_rise = c.remove_mark.ensures.rises;
+      named = λ yes. removed_marks id_key c.self.inside.items.items _ c.args.place _ c.self.inside.ids.items _ c.remove.ensures.items (c.id_in-id.ensures ∙ ap (λ (xs : List Row). id_at xs c.args.place) c.deref-2.ensures.value)
+          (c.self.invariant.named yes) c.remove_mark.ensures.gone;
     }
 
 pub returns-clause-row : goal.returns-clause-row

@@ -4,8 +4,10 @@ use Rattle.otp_table.specs.Counted.{AreCounted}
 use Rattle.otp_table.specs.declared.row.Row.{Row}
 use Rattle.otp_table.specs.Rows.{with_state}
 use Rattle.otp_table.specs.Keys.{id_key}
-use Rattle.otp_table.specs.Marks.{number_at, number_key}
-use Rattle.otp_table.proofs.Indexed.{kept_marks, set_marks}
+use Rattle.otp_table.specs.Marks.{number_at}
+use Rattle.otp_table.specs.Numbers.{AreApart, AreWithin, IsOnlyAt}
+use Rattle.otp_table.proofs.Differing.{set_apart, set_within}
+use Rattle.otp_table.proofs.Indexed.{kept_marks}
 use Rattle.std.proofs.lemmas.List.{get_or_default, get_or-set_same}
 use Rattle.otp_table.proofs.Defined.{set_but}
 use Rattle.otp_table.proofs.rows.Rows.set_state.Goals as goal
@@ -26,11 +28,19 @@ invariant_of-self c =
       counted = counted;
       defined = c.defined_after-self-inside.ensures _ (sym counted.undefined) (set_but c.self.inside.items.items c.args.place c.self.inside.defined _ c.self.invariant.defined) c.index_mut.result.now
           (ap (λ (r : Row). r.state) (get_or-set_same c.self.inside.items.items c.args.place (with_state c.args.state c.index_mut.result.now) c.index_mut.result.now (search rules)));
-      marks_room = search rules;
-      rises = c.change_mark-self-inside.ensures.rises;
-      marked = λ yes. set_marks number_key items c.args.place (with_state c.args.state here) _ _ c.self.inside.marks.items _ (search rules) (c.number_in-number.ensures ∙ ap (λ (xs : List Row). number_at xs c.args.place) c.deref-2.ensures.value)
-          c.number.ensures (c.self.invariant.marked (c.change_mark-self-inside.ensures.before yes)) (c.change_mark-self-inside.ensures.changed yes);
+      within = set_within items c.args.place (with_state c.args.state here) _ c.self.inside.greatest _ (search rules) c.number-number.ensures c.self.invariant.within c.greatest_with-self-inside.ensures;
+      apart = λ w. set_apart items c.args.place (with_state c.args.state here) _ (search rules) c.number-number.ensures (c.self.invariant.apart (c.stay_apart-self-inside.ensures.before w))
+          (subst (λ (xs : List Row). IsOnlyAt c.args.place c.number-number.result (number_at xs)) c.deref-3.ensures.value (c.stay_apart-self-inside.ensures.only w));
       ids_room = search rules;
       ids_rise = c.self.invariant.ids_rise;
       named = λ yes. kept_marks id_key items c.args.place (with_state c.args.state here) c.self.inside.ids.items (search rules) (sym (ap id_key (get_or_default items c.args.place (with_state c.args.state here) here (search rules) ∙ is_here))) (c.self.invariant.named yes);
     }
+
+pub stay_apart-self-inside-requires-clause-within : goal.stay_apart-self-inside-requires-clause-within
+stay_apart-self-inside-requires-clause-within c = subst (λ (xs : List Row). AreWithin c.self.inside.greatest (number_at xs)) (sym c.deref-3.ensures.value) c.self.invariant.within
+
+pub stay_apart-self-inside-requires-clause-apart : goal.stay_apart-self-inside-requires-clause-apart
+stay_apart-self-inside-requires-clause-apart c w = subst (λ (xs : List Row). AreApart (number_at xs)) (sym c.deref-3.ensures.value) (c.self.invariant.apart w)
+
+pub stay_apart-self-inside-requires-clause-old : goal.stay_apart-self-inside-requires-clause-old
+stay_apart-self-inside-requires-clause-old c = c.number_in-old.ensures ∙ ap (λ (xs : List Row). number_at xs c.args.place) (c.deref-2.ensures.value ∙ sym c.deref-3.ensures.value)
