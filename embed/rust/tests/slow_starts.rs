@@ -4,7 +4,7 @@
 mod common;
 
 use common::daemon::{Daemon, KILL, PROGRAM, TERM, send, wait_until};
-use std::process::{Command, Stdio};
+use std::process::{Child, Command, Stdio};
 use std::thread;
 use std::time::Duration;
 
@@ -35,10 +35,7 @@ fn a_child_that_has_ended_is_shown_so_and_who_asks_for_it_is_told_what_it_waits_
     let (_, json) = daemon.ctl(&["status", "--json"]);
     assert!(json.contains("\"id\":\"a\",\"start\":\"a\",\"state\":\"ended\",\"number\":1}"), "{json}");
     for word in ["stop", "start"] {
-        let out = daemon.folder.join("asked");
-        let mut ctl = Command::new(PROGRAM);
-        ctl.args(["ctl", "--control"]).arg(daemon.folder.join("control")).args([word, "a"]).stdout(Stdio::null());
-        let mut ctl = ctl.stderr(std::fs::File::create(&out).unwrap()).spawn().unwrap();
+        let mut ctl = ask(&daemon, &[word, "a"]);
         wait_until("it is told", || daemon.read("asked").contains("a waits: slow is starting, for "));
         ctl.kill().unwrap();
         ctl.wait().unwrap();
@@ -46,6 +43,28 @@ fn a_child_that_has_ended_is_shown_so_and_who_asks_for_it_is_told_what_it_waits_
     assert_eq!(daemon.stop(), 0);
     assert_eq!(daemon.left(), []);
     daemon.replay();
+}
+
+/// Asks for this by a process of its own, which writes what it is told to the file `asked`.
+fn ask(daemon: &Daemon, words: &[&str]) -> Child {
+    let errors = std::fs::File::create(daemon.folder.join("asked")).unwrap();
+    let mut ctl = Command::new(PROGRAM);
+    ctl.args(["ctl", "--control"]).arg(daemon.folder.join("control")).args(words).stdout(Stdio::null());
+    ctl.stderr(errors).spawn().unwrap()
+}
+
+#[test]
+fn who_asks_for_the_end_is_told_what_that_waits_for() {
+    let tree = "[[child]]\nid = \"deaf\"\nstart = \"deaf\"\nshutdown = \"infinity\"\n";
+    let commands =
+        "[deaf]\ncommand = ['sh', '-c', 'trap \"\" TERM; echo >&3; while :; do sleep 0.1; done']\nready = 'notify'\n";
+    let mut daemon = Daemon::start(tree, commands);
+    daemon.wait_ready();
+    let mut ctl = ask(&daemon, &["shutdown"]);
+    wait_until("it is told", || daemon.read("asked").contains("the end waits: deaf was asked to end\n"));
+    assert!(send(pid_of(&daemon, 1), KILL));
+    assert_eq!(daemon.wait(), 0);
+    assert!(ctl.wait().unwrap().success());
 }
 
 #[test]
@@ -124,9 +143,7 @@ fn a_supervisor_that_is_stopped_waits_for_no_start_either() {
     assert_eq!(daemon.ctl(&["stop", "pool"]), (true, "pool: ok\n".to_string()));
     assert!(!daemon.left().contains(&pid_of(&daemon, 4)), "{}", daemon.read("log"));
     // It starts as slowly as before.
-    let mut start = Command::new(PROGRAM);
-    start.args(["ctl", "--control"]).arg(daemon.folder.join("control")).args(["start", "pool"]);
-    let mut start = start.stdout(Stdio::null()).stderr(Stdio::null()).spawn().unwrap();
+    let mut start = ask(&daemon, &["start", "pool"]);
     daemon.wait_for("start", |line| line.get("order") == "start" && line.number("number") == 6);
     thread::sleep(Duration::from_millis(300));
     assert!(

@@ -43,7 +43,7 @@ pub enum Ended {
 pub(crate) struct Waiter {
     /// The client that waits.
     pub token: u64,
-    /// The call's number.
+    /// The call's number; 0 where it is the end of the root that is waited for.
     pub call: u64,
     /// The call that follows, if this one is done.
     pub then: Option<Told>,
@@ -111,9 +111,8 @@ pub struct Daemon {
     pub(crate) untold: VecDeque<Untold>,
     /// Nothing is told before this reading, since memory was refused.
     again: Option<u64>,
+    /// Clients that wait for the answer of a call, or for the end of the root.
     pub(crate) waiters: Vec<Waiter>,
-    /// Clients that wait for the end of the root.
-    pub(crate) until_end: Vec<u64>,
     /// Children may have ended that were not reaped.
     pub(crate) has_more_ends: bool,
     /// The reading at which a signal first asked for an end.
@@ -167,7 +166,6 @@ impl Daemon {
             untold: VecDeque::new(),
             again: None,
             waiters: Vec::new(),
-            until_end: Vec::new(),
             has_more_ends: false,
             asked: None,
             is_stopping: false,
@@ -390,8 +388,7 @@ impl Daemon {
         self.tell_followers();
         self.log.flush();
         let now = self.now();
-        let tokens: Vec<u64> =
-            self.until_end.iter().copied().chain(self.waiters.iter().map(|waiter| waiter.token)).collect();
+        let tokens: Vec<u64> = self.waiters.iter().map(|waiter| waiter.token).collect();
         if let Some(mut control) = self.control.take() {
             for token in tokens {
                 control.answer(now, token, Ok("the tree has ended"));

@@ -50,15 +50,18 @@ impl Daemon {
         }
     }
 
-    /// The line of an order for a process, which has its path where it runs.
-    fn order(&mut self, what: &'static str, process: &Process) -> Record {
+    /// The line of an order for a process.
+    fn order(&mut self, what: &'static str, process: &Process, path: &str) -> Record {
         self.touched.insert(process.supervisor);
-        let path = match self.live.get(&process.number) {
-            Some(live) => live.path.clone(),
-            None => self.path_of(process),
-        };
         let record = Record::new(Class::Order, what).text("path", path);
         record.number("number", process.number).number("supervisor", u64::from(process.supervisor))
+    }
+
+    /// The same for one that was started, whose path was made then.
+    fn order_on(&mut self, what: &'static str, process: &Process) -> Record {
+        let path = self.live.get(&process.number).map(|live| live.path.clone());
+        let path = path.unwrap_or_else(|| self.path_of(process));
+        self.order(what, process, &path)
     }
 
     fn start(&mut self, process: Process) {
@@ -76,7 +79,7 @@ impl Daemon {
             }
             Some(plan) => spawn(&plan, &path, process.number, self.mark.value()).map(|spawned| (spawned, plan)),
         };
-        let record = self.order("start", &process);
+        let record = self.order("start", &process, &path);
         match spawned {
             Ok((spawned, plan)) => {
                 let pid = spawned.pid;
@@ -99,7 +102,7 @@ impl Daemon {
     }
 
     fn ask(&mut self, process: Process, deadline: Option<u64>) {
-        let mut record = self.order("ask", &process);
+        let mut record = self.order_on("ask", &process);
         if let Some(live) = self.live.get_mut(&process.number) {
             live.is_asked = true;
             let sent = live.ask();
@@ -112,7 +115,7 @@ impl Daemon {
     }
 
     fn kill(&mut self, process: Process) {
-        let mut record = self.order("kill", &process);
+        let mut record = self.order_on("kill", &process);
         if let Some(live) = self.live.get(&process.number) {
             let sent = os::signal_group(live.pid, os::SIGKILL);
             record = record.text("signal", "KILL").maybe("text", sent.err().map(refused));
@@ -184,7 +187,8 @@ impl Daemon {
                 }
             }
             Request::Shutdown => {
-                self.until_end.push(token);
+                let told_at = Some(self.reading.saturating_add(LONG));
+                self.waiters.push(Waiter { told_at, ..Waiter::new(token, "the end") });
                 self.stop();
             }
             Request::Which(path) => self.call_supervisor(token, &path, CallKind::Which),

@@ -2,7 +2,7 @@
 
 use crate::control::Spoken;
 use crate::daemon::Daemon;
-use crate::ends::stopped;
+use crate::ends::{refused, stopped};
 use crate::live::{Stage, text_of};
 use crate::log::{Class, Record};
 use crate::os::{self, Waited};
@@ -180,9 +180,10 @@ impl Daemon {
             }
             // The tree is told once the process is gone, so that the next one doesn't meet it.
             live.is_late = true;
-            let _ = os::signal_group(live.pid, os::SIGKILL);
+            let sent = os::signal_group(live.pid, os::SIGKILL);
+            let text = sent.map_or_else(refused, |()| "not up in time: it is killed".to_string());
             let record = Record::new(Class::Remark, "late").text("path", &live.path).number("number", number);
-            self.remark(record.text("text", "not up in time: it is killed"));
+            self.remark(record.text("text", text));
         }
         self.go_on();
     }

@@ -23,7 +23,7 @@ pub struct Mark {
 impl Mark {
     /// That of this process, whose place is its control folder, or without one its tree file.
     pub fn new(place: &Path) -> io::Result<Self> {
-        let place = place.canonicalize()?.into_os_string();
+        let place = place.canonicalize().or_else(|_| std::path::absolute(place))?.into_os_string();
         let pid = std::process::id();
         let beginning = proc_files::beginning_of(pid as i32).unwrap_or(0);
         let mut value = OsString::from(format!("{pid}.{beginning}@"));

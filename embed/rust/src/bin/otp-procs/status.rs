@@ -92,19 +92,19 @@ impl Daemon {
     fn words_of_work(&self, supervisor: u32, child: &Child) -> String {
         let path = format!("{}{}", self.paths.get(supervisor as usize).map_or("", String::as_str), name_of(child));
         let live = child.number.and_then(|number| self.live.get(&number));
-        match (child.state, live, child.deadline) {
-            (ChildState::Starting, Some(live), _) => {
+        let killed_at = live.and_then(|live| live.kill_at).or(child.deadline);
+        match (child.state, live, killed_at) {
+            (ChildState::Starting, Some(live), None) if !live.is_cut => {
                 let (Stage::Starting(since) | Stage::Up(since)) = live.stage;
                 let most =
                     live.plan.ready_within.map_or(String::new(), |most| format!(" of {} at the most", span(most)));
                 format!("{path} is starting, for {}{most}", span(self.reading.saturating_sub(since)))
             }
-            (ChildState::Asked, _, Some(deadline)) => {
-                format!("{path} was asked to end, and is killed in {}", span(deadline.saturating_sub(self.reading)))
-            }
-            (ChildState::Asked, ..) => format!("{path} was asked to end"),
             (ChildState::Killed, ..) => format!("{path} was killed, and hasn't ended"),
-            _ => format!("{path} is starting"),
+            (_, _, Some(at)) => {
+                format!("{path} was asked to end, and is killed in {}", span(at.saturating_sub(self.reading)))
+            }
+            _ => format!("{path} was asked to end"),
         }
     }
 }
