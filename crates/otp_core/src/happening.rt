@@ -1,15 +1,16 @@
 //! One event of a core, with the room and the memory for it.
 
-ghost use Rattle.std.specs.Prelude.{ℕ, All, ◌≡◌, ◌<◌, ◌≤◌, false, true, is_some, MatchOption, IsTrue, IfOk, IfErr, OnOk, OnErr};
+ghost use Rattle.std.specs.Prelude.{ℕ, All, ◌≡◌, ◌<◌, ◌≤◌, false, true, is_some, MatchOption, IsTrue, IfOk, IfErr, OnOk, OnErr, length};
 ghost use Rattle.otp_core.specs.Full.{is_full};
-ghost use Rattle.otp_core.specs.Happened.{Happened, HasNoRoom, IsEventFault, cut_before};
+ghost use Rattle.otp_core.specs.Happened.{Happened, HappenedAfter, HasNoRoom, IsEventFault, cut_before};
 ghost use Rattle.otp_core.specs.View.{state_of};
 ghost use Rattle.otp_rules.specs.Needs.{needs_number, numbers_of};
+ghost use Rattle.otp_core.specs.declared.cut.TheConstants.{MAX_EVENTS_IN_ALL};
 ghost use Rattle.otp_spec.specs.declared.limits.TheConstants.{MAX_READING};
 
 use crate::cut::CutFault;
 use crate::supervisor::Core;
-use otp_machine::Numbers;
+use otp_machine::{Counter, Numbers};
 use otp_rules::Kind;
 use std::alloc::AllocError;
 use thiserror::Error;
@@ -23,7 +24,7 @@ pub enum EventFault {
     /// The core is full, and its effects weren't cleared: a cut would drop the answers that they tell of.
     #[error("orders wait to be cleared")]
     OrdersWait,
-    /// E8: there were more events than [`MAX_EVENTS_IN_ALL`](crate::MAX_EVENTS_IN_ALL).
+    /// E8: there were as many events as there may be in all, [`MAX_EVENTS_IN_ALL`](crate::MAX_EVENTS_IN_ALL).
     #[error("history full")]
     HistoryFull,
 }
@@ -63,21 +64,48 @@ impl Core {
         &mut self,
         limit: usize,
         reading: u64,
-        kind: Kind,
+        kind: &Kind,
         numbers: &mut N,
     ) -> Result<Option<u64>, EventFault>
         requires reading { reading ≤ MAX_READING }
-        requires number { IsTrue (needs_number (state_of self.old) reading kind) → N.can_give numbers.old }
+        requires number { IsTrue (needs_number (state_of self.old) reading kind.now) → N.can_give numbers.old }
         requires rises { (n : ℕ) (after : N) → N.gives numbers.old n after → All (λ m. m < n) (numbers_of self.old.history) }
-        ensures number { IfOk result (λ number. is_some number ≡ needs_number (state_of self.old) reading kind) }
+        ensures number { IfOk result (λ number. is_some number ≡ needs_number (state_of self.old) reading kind.now) }
         ensures drawn { IfOk result (λ number. MatchOption number (numbers.new ≡ numbers.old) (λ n. N.gives numbers.old n numbers.new)) }
-        ensures happened { IfOk result (λ number. Happened limit (record { reading = reading; number = number; kind = kind }) self.old self.new) }
+        ensures happened { IfOk result (λ number. Happened limit (record { reading = reading; number = number; kind = kind.now }) self.old self.new) }
+        ensures events { OnOk result (length self.old.history < MAX_EVENTS_IN_ALL) }
         ensures err { OnErr result (self.new ≡ record self.old { prepared = self.new.prepared }) }
         ensures undrawn { OnErr result (numbers.new ≡ numbers.old) }
         ensures why { IfErr result (IsEventFault self.old) }
     {
         self.make_ready(limit)?;
-        Ok(self.step_with(reading, &kind, numbers))
+        Ok(self.step_with(reading, kind, numbers))
+    }
+
+    /// The same where process numbers are counted: a child that is started gets the next one after `last`, and the answer is
+    /// the last number then.
+    ///
+    /// # Errors
+    ///
+    /// As of [`Core::happen`].
+    pub fn happen_after(
+        &mut self,
+        limit: usize,
+        reading: u64,
+        kind: &Kind,
+        last: u64,
+    ) -> Result<u64, EventFault>
+        requires reading { reading ≤ MAX_READING }
+        requires last { last ≤ MAX_READING }
+        requires rises { (n : ℕ) → last < n → All (λ m. m < n) (numbers_of self.old.history) }
+        ensures ok { IfOk result (λ after. HappenedAfter limit last reading kind.now self.old self.new after) }
+        ensures events { OnOk result (length self.old.history < MAX_EVENTS_IN_ALL) }
+        ensures err { OnErr result (self.new ≡ record self.old { prepared = self.new.prepared }) }
+        ensures why { IfErr result (IsEventFault self.old) }
+    {
+        let mut numbers = Counter { last };
+        let _number = self.happen(limit, reading, kind, &mut numbers)?;
+        Ok(numbers.last)
     }
 
     /// Takes the memory of the next event, and makes room for it.
@@ -87,6 +115,7 @@ impl Core {
         ensures kept { OnErr result (self.new.cut ≡ self.old.cut) }
         ensures prepared { OnOk result (self.new.prepared ≡ true) }
         ensures room { OnOk result (is_full self.new ≡ false) }
+        ensures events { OnOk result (length self.old.history < MAX_EVENTS_IN_ALL) }
         ensures why { IfErr result (IsEventFault self.old) }
     {
         self.prepare()?;
@@ -100,8 +129,12 @@ impl Core {
         ensures cut { OnOk result (self.new.cut ≡ cut_before limit self.old) }
         ensures err { OnErr result (self.new ≡ self.old) }
         ensures room { OnOk result (is_full self.new ≡ false) }
+        ensures events { OnOk result (length self.old.history < MAX_EVENTS_IN_ALL) }
         ensures why { IfErr result (HasNoRoom self.old) }
     {
+        if self.is_spent() {
+            return Err(EventFault::HistoryFull);
+        }
         if self.effects().is_empty() {
             self.make_room(limit)?;
             return Ok(());

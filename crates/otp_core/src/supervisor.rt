@@ -67,7 +67,7 @@ pub struct Spare {
 /// let mut numbers = Counter { last: core.greatest_number() }; // whatever gives process numbers
 /// let mut next = Some(Kind::Opened(own));
 /// while let Some(kind) = next {
-///     core.happen(MAX_EVENTS, clock, kind, &mut numbers)?; // decides; memory may be refused
+///     core.happen(MAX_EVENTS, clock, &kind, &mut numbers)?; // decides; memory may be refused
 ///     carry_out(core.effects());                           // start, ask, kill; answers by Core::reply
 ///     core.clear_effects();
 ///     next = core.next_kind(clock, is_stop_wanted)         // what comes next by itself
@@ -75,8 +75,9 @@ pub struct Spare {
 /// }
 /// ```
 ///
-/// It ends when [`Core::has_ended`]; until [`Core::next_deadline`] it may wait for its inbox. Whoever takes an item only where
-/// its event is sure to come has [`Core::happen`] in three: [`Core::make_room`], [`Core::prepare`], [`Core::step_with`].
+/// It ends when [`Core::has_ended`]; until [`Core::next_deadline`] it may wait for its inbox. Whoever counts process numbers has
+/// [`Core::happen_after`]. Whoever takes an item only where its event is sure to come has [`Core::happen`] in three:
+/// [`Core::make_room`], [`Core::prepare`], [`Core::step_with`].
 ///
 /// # Memory
 ///

@@ -1,5 +1,5 @@
 -- What a core keeps since its last cut, and what it had in all.
-use Rattle.std.specs.Prelude.{◌≡◌, ◌≤◌, ◌+◌, ◌⊎◌, ℕ, Bool, true, false, ◌||◌, List, [], ◌∷◌, ◌++◌, Some, drop, length, nat_le, refl, take}
+use Rattle.std.specs.Prelude.{◌≡◌, ◌≤◌, ◌+◌, ◌⊎◌, ℕ, Bool, true, false, ◌||◌, List, [], ◌∷◌, ◌++◌, Some, drop, length, refl, take}
 use Rattle.std.proofs.Common.{◌∙◌, ap, arith, inl, inr, sym}
 use Rattle.std.proofs.lemmas.Bool.{leb-true}
 use Rattle.std.proofs.lemmas.List.{length-append, take-append-drop}
@@ -80,4 +80,4 @@ pub refused_as : CutsAgree → RunsJoined → (v : View) (cause : EventFault) (w
     → (why ≡ OutOfMemory) ⊎ HasNoRoom v.base v.history v.effects why
 refused_as cuts joined v cause why is (inl memory) = inl (is ∙ ap fault_of memory)
 refused_as cuts joined v cause why is (inr (inl (waits, some, full))) = inr (inl (is ∙ ap fault_of waits, some, full_is_many cuts joined v full))
-refused_as cuts joined v cause why is (inr (inr (spent, _, many))) = inr (inr (is ∙ ap fault_of spent, many))
+refused_as cuts joined v cause why is (inr (inr (spent, many))) = inr (inr (is ∙ ap fault_of spent, many))

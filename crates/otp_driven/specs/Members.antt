@@ -1,6 +1,6 @@
 -- A supervisor of a tree that is driven, with its events and its orders, and how they go on (own).
-use Rattle.std.specs.Prelude.{◌≡◌, ℕ, ◌+◌, ◌<◌, ◌≤◌, ◌⊎◌, Bool, List, [], ◌∷◌, ◌++◌, Option, Some, None, length, nat_lt, position, slice_get, if◌then◌else◌}
-use Rattle.otp_core.specs.View.{View, state_of}
+use Rattle.std.specs.Prelude.{◌≡◌, ℕ, ◌+◌, ◌<◌, ◌≤◌, ◌⊎◌, Bool, List, [], ◌∷◌, ◌++◌, Option, Some, None, length, nat_lt, position, slice_get, unwrap_or, if◌then◌else◌}
+use Rattle.otp_core.specs.Happened.{number_after}
 use Rattle.otp_core.specs.declared.cut.TheConstants.{MAX_EVENTS_IN_ALL, MAX_KEPT_LINES}
 use Rattle.otp_core.specs.declared.happening.EventFault.{EventFault}
 use Rattle.otp_core.specs.declared.happening.EventFault.TheVariants as event
@@ -10,7 +10,7 @@ use Rattle.otp_rules.specs.declared.event.Effect.{Effect}
 use Rattle.otp_rules.specs.declared.event.Event.{Event}
 use Rattle.otp_rules.specs.declared.event.Kind.{Kind}
 use Rattle.otp_rules.specs.Counts.{lines_told}
-use Rattle.otp_rules.specs.Needs.{last_number}
+use Rattle.otp_rules.specs.Needs.{last_number, needs_number}
 use Rattle.otp_rules.specs.Run.{empty_state, state_after}
 use Rattle.otp_rules.specs.State.{State}
 use Rattle.otp_rules.specs.Step.{step}
@@ -44,28 +44,15 @@ row_at rows number = row_in rows (position (row_has (has_process number)) rows)
 abbrev pub unopened : SupFlags → List ChildSpec → Member
 unopened flags specs = record { base = empty_state flags specs; history = []; effects = []; taken = 0 }
 
--- a number that was given comes after the last one, and is the last one then
-abbrev pub Counts : Option ℕ → ℕ → ℕ → Type 0
-Counts None last after = after ≡ last
-Counts (Some n) last after = (n ≡ last + 1) × (after ≡ n)
-
 -- an event of this kind happens to a supervisor at this reading of the clock: its orders are those of the rules, behind those
--- that are there. Process numbers are counted on from the last one
+-- that are there. Where a process is started it gets the next number after the last one
 abbrev pub Happens : ℕ → ℕ → Kind → Member → Member → ℕ → Type 0
 Happens reading last k old new after =
-    (number : Option ℕ) × Counts number last after
+    (number : Option ℕ) × (number ≡ number_after last (needs_number (state_in old) reading k)) × (after ≡ unwrap_or number last)
     × (new ≡ record old {
       history = old.history ++ record { reading = reading; number = number; kind = k } ∷ [];
       effects = old.effects ++ (step (state_in old) (record { reading = reading; number = number; kind = k })).orders;
     })
-
--- the same of a core
-abbrev pub CoreHappens : ℕ → ℕ → Kind → View → View → ℕ → Type 0
-CoreHappens reading last kind old new after =
-    (number : Option ℕ) × Counts number last after
-    × (new.base ≡ old.base)
-    × (new.history ≡ old.history ++ record { reading = reading; number = number; kind = kind } ∷ [])
-    × (new.effects ≡ old.effects ++ (step (state_of old) (record { reading = reading; number = number; kind = kind })).orders)
 
 -- there were as many events, or the answers list as many children, as a supervisor keeps while orders wait
 abbrev pub IsMany : State → List Event → Type 0
@@ -74,7 +61,7 @@ IsMany base history = (MAX_EVENTS ≤ length history) ⊎ (MAX_KEPT_LINES ≤ li
 -- no room could be made for an event more: orders wait to be taken, or there were as many events as there may be in all
 abbrev pub HasNoRoom : State → List Event → List Effect → DriveFault → Type 0
 HasNoRoom base history effects why =
-    ((why ≡ OrdersWait) × ¬ (effects ≡ []) × IsMany base history) ⊎ ((why ≡ Spent) × (MAX_EVENTS_IN_ALL < length history))
+    ((why ≡ OrdersWait) × ¬ (effects ≡ []) × IsMany base history) ⊎ ((why ≡ Spent) × (MAX_EVENTS_IN_ALL ≤ length history))
 
 -- why a core takes no event, as the driver says it
 abbrev pub fault_of : EventFault → DriveFault

@@ -1,15 +1,15 @@
 //! A supervisor of the tree: its core, and how many of its orders were taken.
 
 ghost use Rattle.std.specs.Prelude.{◌≡◌, ℕ, All, ◌≤◌, ◌<◌, ◌^◌, ◌-◌, ◌⊎◌, false, true, Some, is_some, min, slice_get, length, option_map, IfErr, IfOk, IfSome, OnOk, OnErr};
-ghost use Rattle.otp_core.specs.Full.{is_full};
-ghost use Rattle.otp_core.specs.Happened.{HasNoRoom as CoreHasNoRoom, IsEventFault, cut_before};
+ghost use Rattle.otp_core.specs.Happened.{HappenedAfter};
+ghost use Rattle.otp_driven.specs.declared.limits.TheConstants.{KEPT_EVENTS};
 ghost use Rattle.otp_table.specs.Rows.{has_process};
 ghost use Rattle.otp_rules.specs.Counts.{counts_of};
 ghost use Rattle.otp_rules.specs.Ends.{last_stamps};
 ghost use Rattle.otp_rules.specs.Next.{next_deadline, next_kind};
 ghost use Rattle.otp_rules.specs.State.{is_over};
 ghost use Rattle.otp_spec.specs.declared.limits.TheConstants.{MAX_READING};
-ghost use Rattle.otp_driven.specs.Members.{CoreHappens, Happens, HasNoRoom, IsRefused, has_order, passed, row_at, state_in, unopened};
+ghost use Rattle.otp_driven.specs.Members.{Happens, HasNoRoom, IsRefused, has_order, passed, row_at, state_in, unopened};
 ghost use Rattle.otp_driven.specs.Replies.{AreAnswered, IsKept, IsReplyIn};
 ghost use Rattle.otp_driven.specs.declared.fault.DriveFault.TheVariants.{OutOfMemory};
 ghost use Rattle.otp_rules.specs.Needs.{numbers_of};
@@ -17,7 +17,7 @@ ghost use Rattle.otp_rules.specs.declared.event.Effect.TheVariants as effect;
 
 use crate::fault::{DriveFault, fault_of};
 use crate::limits::KEPT_EVENTS;
-use otp_core::{Core, Counter, EventFault, ReplyAnswer, laws};
+use otp_core::{Core, ReplyAnswer, laws};
 use otp_rules::{CountsNow, Effect, Kind, Phase, Reply};
 use otp_spec::{MAX_READING, SupFlags, SupSpec};
 use otp_table::Row;
@@ -48,40 +48,6 @@ impl Model for Supervisor {
     ghost invariant = { IsMember };
 }
 
-/// Takes the memory of a core's next event, and makes room for it.
-fn make_ready(core: &mut Core) -> Result<(), EventFault>
-    ensures core { core.new ≡ record core.old { cut = core.new.cut; prepared = core.new.prepared } }
-    ensures cut { OnOk result (core.new.cut ≡ cut_before KEPT_EVENTS core.old) }
-    ensures kept { OnErr result (core.new.cut ≡ core.old.cut) }
-    ensures prepared { OnOk result (core.new.prepared ≡ true) }
-    ensures room { OnOk result (is_full core.new ≡ false) }
-    ensures why { IfErr result (IsEventFault core.old) }
-{
-    core.prepare()?;
-    make_room_if_cleared(core)?;
-    Ok(())
-}
-
-/// Makes room where the effects were cleared. Where they weren't there must be room, since a cut drops the answers that they
-/// tell of.
-fn make_room_if_cleared(core: &mut Core) -> Result<(), EventFault>
-    ensures core { core.new ≡ record core.old { cut = core.new.cut } }
-    ensures cut { OnOk result (core.new.cut ≡ cut_before KEPT_EVENTS core.old) }
-    ensures err { OnErr result (core.new ≡ core.old) }
-    ensures room { OnOk result (is_full core.new ≡ false) }
-    ensures why { IfErr result (CoreHasNoRoom core.old) }
-{
-    if core.effects().is_empty() {
-        core.make_room(KEPT_EVENTS)?;
-        return Ok(());
-    }
-    if core.is_full() {
-        Err(EventFault::OrdersWait)
-    } else {
-        Ok(())
-    }
-}
-
 /// The row at this place, if it has this process.
 fn row_with(rows: &[Row], place: usize, number: u64) -> Option<&Row>
     ensures { IfSome result (λ row. (slice_get rows.now place ≡ Some row.now) × (has_process number row.now.state ≡ true)) }
@@ -95,12 +61,12 @@ fn row_with(rows: &[Row], place: usize, number: u64) -> Option<&Row>
 }
 
 /// Something happens to a core, of which only the last events are kept while no order waits. The answer is the last process
-/// number then. It is [`Core::happen`] by its parts: so the event, which is large, is not copied.
+/// number then.
 fn happen(core: &mut Core, reading: u64, kind: &Kind, last: u64) -> Result<u64, DriveFault>
     requires reading { reading ≤ MAX_READING }
     requires last { last < MAX_READING }
     requires numbers { (n : ℕ) → last < n → All (λ m. m < n) (numbers_of core.old.history) }
-    ensures ok { IfOk result (λ after. CoreHappens reading last kind.now core.old core.new after) }
+    ensures ok { IfOk result (λ after. HappenedAfter KEPT_EVENTS last reading kind.now core.old core.new after) }
     ensures err { OnErr result (core.new ≡ record core.old { prepared = core.new.prepared }) }
     ensures why { IfErr result (λ why. (why ≡ OutOfMemory) ⊎ HasNoRoom core.old.base core.old.history core.old.effects why) }
     // What a cut drops is no answer that an order tells of.
@@ -109,12 +75,10 @@ fn happen(core: &mut Core, reading: u64, kind: &Kind, last: u64) -> Result<u64, 
     laws::answers_are_told();
     laws::cuts_agree();
     laws::runs_are_joined();
-    if let Err(cause) = make_ready(core) {
-        return Err(fault_of(cause));
+    match core.happen_after(KEPT_EVENTS, reading, kind, last) {
+        Ok(after) => Ok(after),
+        Err(cause) => Err(fault_of(cause)),
     }
-    let mut numbers = Counter { last };
-    let _ = core.step_with(reading, kind, &mut numbers);
-    Ok(numbers.last)
 }
 
 impl Supervisor {

@@ -1,37 +1,25 @@
 -- One event of a scene.
-use Rattle.std.specs.Prelude.{◌≡◌, ℕ, ◌+◌, ◌<◌, ◌≤◌, Bool, true, false, List, [], ◌∷◌, ◌++◌, Option, Some, None, MatchOption, refl, is_some, length, unwrap_or, if◌then◌else◌, not}
+use Rattle.std.specs.Prelude.{◌≡◌, ℕ, ◌+◌, ◌<◌, ◌≤◌, Bool, true, false, List, [], ◌∷◌, ◌++◌, Option, Some, None, refl, length, unwrap_or, if◌then◌else◌, not}
 use Rattle.std.proofs.Common.{◌∙◌, ap, arith, length-append}
 use Rattle.std.specs.List.{filter, filter_map}
 use Rattle.otp_core.specs.declared.cut.TheConstants.{MAX_EVENTS_IN_ALL}
 use Rattle.otp_rules.specs.Effects.{is_reply}
-use Rattle.otp_machine.specs.declared.numbers.Counter.{Counter}
+use Rattle.otp_core.specs.Happened.{HappenedAfter, number_after}
+use Rattle.otp_core.specs.View.{View, state_of}
+use Rattle.otp_spec.specs.declared.limits.TheConstants.{MAX_EVENTS}
 use Rattle.otp_reason.specs.declared.note.Note.{Note}
-use Rattle.otp_rules.specs.Needs.{last_from, last_number}
+use Rattle.otp_rules.specs.Needs.{last_from, last_number, needs_number}
 use Rattle.otp_rules.specs.declared.event.Effect.{Effect}
 use Rattle.otp_rules.specs.declared.event.Event.{Event}
 use Rattle.otp_rules.specs.declared.event.Kind.{Kind}
-use Rattle.otp_rules.specs.Run.{state_after}
 use Rattle.otp_rules.specs.State.{State}
 use Rattle.otp_rules.specs.Step.{step}
 use Rattle.otp_limits.specs.Scene.{Scene, after_event, event_for, happened, note_of}
 
--- the state after one event more
-pub pushed : (s : State) (es : List Event) (e : Event) → state_after s (es ++ e ∷ []) ≡ (step (state_after s es) e).state
-pushed s [] e = refl
-pushed s (x ∷ xs) e = pushed (step s x).state xs e
-
+-- the last number after one event more
 pub last_pushed : (p : ℕ) (es : List Event) (e : Event) → last_from p (es ++ e ∷ []) ≡ unwrap_or e.number (last_from p es)
 last_pushed p [] e = refl
 last_pushed p (x ∷ xs) e = last_pushed (unwrap_or x.number p) xs e
-
--- a counter that was asked where a number is needed gave the next one
-pub given : (needs : Bool) (number : Option ℕ) (last : ℕ) (old new : Counter) → old.last ≡ last → is_some number ≡ needs
-    → MatchOption number (new ≡ old) (λ n. (n ≡ old.last + 1) × (new ≡ record { last = old.last + 1 }))
-    → number ≡ (if needs then Some (last + 1) else None)
-given false None last old new same is h = refl
-given true None last old new same is h = cc
-given false (Some n) last old new same is h = cc
-given true (Some n) last old new same is (is_next, is_new) = ap (λ (m : ℕ). Some m) (is_next ∙ ap (λ (m : ℕ). m + 1) same)
 
 at_most_next : (number : Option ℕ) (needs : Bool) (last : ℕ) → number ≡ (if needs then Some (last + 1) else None) → unwrap_or number last ≤ last + 1
 at_most_next None needs last h = omega arith
@@ -47,6 +35,15 @@ still history longer e needs more next few room =
     let last : last_number longer ≡ unwrap_or e.number (last_number history) = ap last_number more ∙ last_pushed 0 history e in
     let most : unwrap_or e.number (last_number history) ≤ last_number history + 1 = at_most_next e.number needs (last_number history) next in
     (omega (arith, count, room), omega (arith, count, last, most, few))
+
+-- and so of its core, whose orders are taken
+pub stays : (old after taken : View) (time last : ℕ) (kind : Kind) (n : ℕ) → HappenedAfter MAX_EVENTS last time kind old after n → taken ≡ record after { effects = [] }
+    → last ≡ last_number old.history → last_number old.history ≤ length old.history → length old.history < MAX_EVENTS_IN_ALL
+    → (length taken.history ≤ MAX_EVENTS_IN_ALL) × (last_number taken.history ≤ length taken.history)
+stays old after taken time last kind n is none same few room =
+    still old.history taken.history (record { reading = time; number = is.number; kind = kind }) (needs_number (state_of old) time kind)
+    (ap (λ (v : View). v.history) none ∙ is.happened.history)
+    (is.number_is ∙ ap (λ (l : ℕ). number_after l (needs_number (state_of old) time kind)) same) few room
 
 -- orders but for answers
 abbrev pub asked : List Effect → List Effect

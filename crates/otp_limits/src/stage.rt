@@ -10,10 +10,9 @@ ghost use Rattle.otp_trial.specs.declared.trial.Halt.TheVariants.{HistoryFull};
 ghost use Rattle.otp_spec.specs.Flags.{is_simple};
 ghost use Rattle.otp_spec.specs.declared.limits.TheConstants.{MAX_READING};
 
-use otp_core::{Core, Counter, MAX_EVENTS_IN_ALL};
+use otp_core::{Core, MAX_EVENTS, MAX_EVENTS_IN_ALL};
 use otp_reason::{Name, Note, Reason};
 use otp_rules::{Call, Effect, Item, Kind};
-use otp_sim::make_room;
 use otp_spec::{Strategy, SupSpec};
 use otp_table::Row;
 use otp_trial::Halt;
@@ -213,12 +212,8 @@ impl Stage {
         ensures ok { OnOk result (self.new ≡ happened time kind self.old) }
         ensures full { IfErr result (λ halt. halt ≡ HistoryFull → IsFull self.old) }
     {
-        make_room(&mut self.core)?;
-        self.core.prepare()?;
-        let mut numbers = Counter {
-            last: self.core.last_number(),
-        };
-        self.core.step_with(time, &kind, &mut numbers);
+        let last = self.core.last_number();
+        self.core.happen_after(MAX_EVENTS, time, &kind, last)?;
         take_orders(&mut self.core, &mut self.notes, &mut self.orders)?;
         Ok(())
     }

@@ -1,12 +1,15 @@
-use Rattle.std.proofs.Common.{◌≡◌, ℕ, ◌+◌, ◌-◌, ◌<◌, ◌≤◌, ◌++◌, ◌==◌, Bool, false, List, [], ◌∷◌, ◌∙◌, Option, None, Some, ap, arith, refl, subst, sym}
-use Rattle.std.specs.Prelude.{MatchOption, if◌then◌else◌, is_some, true, unwrap_or}
-use Rattle.otp_machine.specs.declared.numbers.Counter.{Counter}
+use Rattle.std.proofs.Common.{◌≡◌, ℕ, ◌+◌, ◌-◌, ◌<◌, ◌≤◌, ◌++◌, ◌==◌, Bool, false, List, [], ◌∷◌, ◌∙◌, Option, None, Some, ap, arith, inl, inr, length, refl, sym}
+use Rattle.std.specs.Prelude.{if◌then◌else◌, true, unwrap_or}
+use Rattle.otp_core.specs.Happened.{IsEventFault, number_after}
+use Rattle.otp_core.specs.View.{View}
+use Rattle.otp_core.specs.declared.cut.TheConstants.{MAX_EVENTS_IN_ALL}
+use Rattle.otp_core.specs.declared.happening.EventFault.{EventFault}
+use Rattle.otp_core.specs.declared.happening.EventFault.TheVariants as fault
 use Rattle.std.proofs.lemmas.Bool.{eqb-true}
 use Rattle.otp_rules.specs.declared.event.Event.{Event}
 use Rattle.otp_rules.specs.declared.event.Kind.{Kind}
 use Rattle.otp_rules.specs.declared.event.Effect.{Effect}
 use Rattle.otp_rules.specs.Needs.{last_from, last_number}
-use Rattle.otp_rules.specs.Run.{state_after}
 use Rattle.otp_rules.specs.State.{State}
 use Rattle.otp_rules.specs.Step.{step}
 use Rattle.otp_sim.specs.declared.driven.Stop.TheVariants as stop
@@ -18,11 +21,6 @@ use Rattle.otp_rules.specs.declared.call.Reply.{Reply}
 use Rattle.otp_rules.specs.declared.event.Effect.TheVariants as effect
 use Rattle.otp_text.specs.Effects.{effect_line}
 use Rattle.otp_sim.specs.Sim.{Sim, event_of, happen, orders_text, stepped, told_by}
-
--- one event more
-pub pushed : (s : State) (es : List Event) (e : Event) → state_after s (es ++ e ∷ []) ≡ (step (state_after s es) e).state
-pushed s [] e = refl
-pushed s (x ∷ xs) e = pushed (step s x).state xs e
 
 -- what happens is the event, its state and its printed orders
 pub happened : (kind : Kind) (s : Sim) (event : Event) (state : State) (processes room : ℕ) (text : List ℕ) →
@@ -49,9 +47,10 @@ last_from_pushed p (x ∷ xs) e = last_from_pushed (unwrap_or x.number p) xs e
 pub last_pushed : (es longer : List Event) (e : Event) → longer ≡ es ++ e ∷ [] → last_number longer ≡ unwrap_or e.number (last_number es)
 last_pushed es longer e more = ap last_number more ∙ last_from_pushed 0 es e
 
-pub at_most_next : (number : Option ℕ) (p : ℕ) → ((n : ℕ) → number ≡ Some n → n ≡ p + 1) → unwrap_or number p ≤ p + 1
-at_most_next None p h = omega arith
-at_most_next (Some n) p h = let e : n ≡ p + 1 = h n refl in omega (arith, e)
+pub at_most_next : (number : Option ℕ) (draws : Bool) (p : ℕ) → number ≡ number_after p draws → unwrap_or number p ≤ p + 1
+at_most_next None draws p h = omega arith
+at_most_next (Some n) false p h = cc
+at_most_next (Some n) true p h = let e : n ≡ p + 1 = cc in omega (arith, e)
 
 pub few_left : (n : ℕ) → n < 4611686018427387904 → (4611686018427387904 - n == 0) ≡ false
 few_left n few =
@@ -60,16 +59,11 @@ few_left n few =
       | false ↦ λ e. refl
     ]) refl
 
--- a counter that was asked where a number was needed gave the next
-abbrev pub Draws : Option ℕ → Counter → Counter → Type 0
-Draws number old new = MatchOption number (new ≡ old) (λ n. (n ≡ old.last + 1) × (new ≡ record { last = old.last + 1 }))
-
-pub numbered : (number : Option ℕ) (needs : Bool) (old new : Counter) → is_some number ≡ needs → Draws number old new → number ≡ (if needs then Some (old.last + 1) else None)
-numbered None needs old new e h = ap (λ (b : Bool). if b then Some (old.last + 1) else None) e
-numbered (Some n) needs old new e h = ap (λ (m : ℕ). Some m) h.0 ∙ ap (λ (b : Bool). if b then Some (old.last + 1) else None) e
-
-pub gave_next : (number : Option ℕ) (old new : Counter) → Draws number old new → (n : ℕ) → number ≡ Some n → n ≡ old.last + 1
-gave_next number old new h n e = (subst (λ (o : Option ℕ). Draws o old new) e h).0
+-- a core that takes no event for this has had all
+pub spent : (v : View) (why : EventFault) → why ≡ fault.HistoryFull → IsEventFault v why → MAX_EVENTS_IN_ALL ≤ length v.history
+spent v why is (inl memory) = cc
+spent v why is (inr (inl (waits, _, _))) = cc
+spent v why is (inr (inr (_, many))) = many
 
 -- what is printed for an order whose answer is kept
 told_same : (all kept : List Answered) (e : Effect) → IsKeptIn all kept e → told_by e kept ≡ told_by e all

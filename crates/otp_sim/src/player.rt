@@ -11,8 +11,7 @@ ghost use Rattle.otp_sim.specs.Runs.{with_text};
 ghost use Rattle.otp_sim.specs.declared.driven.TheConstants.{LINE_LIMIT};
 
 use crate::driven::Stop;
-use crate::room::make_room;
-use otp_core::{Core, Counter, ReplyAnswer};
+use otp_core::{Core, EventFault, MAX_EVENTS, ReplyAnswer};
 use otp_reason::Note;
 use otp_rules::{Effect, Item, Kind, Reply};
 use otp_spec::SupSpec;
@@ -116,15 +115,16 @@ impl Player {
         ensures kept { Begins out.old.items out.new.items }
         ensures lines { self.new.lines ≡ self.old.lines }
     {
-        let Ok(()) = make_room(&mut self.core) else {
-            self.end = Some(Stop::HistoryFull);
-            return Ok(());
-        };
-        self.core.prepare()?;
-        let mut numbers = Counter {
-            last: self.core.last_number(),
-        };
-        self.core.step_with(self.reading, kind, &mut numbers);
+        let last = self.core.last_number();
+        match self.core.happen_after(MAX_EVENTS, self.reading, kind, last) {
+            Ok(_) => {}
+            Err(EventFault::HistoryFull) => {
+                self.end = Some(Stop::HistoryFull);
+                return Ok(());
+            }
+            // No order waits.
+            Err(EventFault::OutOfMemory | EventFault::OrdersWait) => return Err(AllocError),
+        }
         let printed = print_orders(&self.core, &mut self.printer, out);
         self.core.clear_effects();
         printed

@@ -5,3 +5,4 @@ pub mod Next
 pub mod Inside
 pub mod TrialInside
 pub mod Taken
+pub mod Halts

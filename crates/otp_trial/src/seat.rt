@@ -12,10 +12,9 @@ ghost use Rattle.otp_trial.specs.Played.{Happens, end_if_started, end_of_ended, 
 
 use crate::planting::seat_of;
 use crate::trial::{ActionEnd, Halt};
-use otp_core::{Core, Counter};
+use otp_core::{Core, MAX_EVENTS};
 use otp_rules::{Effect, Kind, Phase};
 use otp_script::Expected;
-use otp_sim::make_room;
 use otp_spec::{MAX_READING, SupFlags, SupSpec};
 use otp_table::{Row, RowState};
 use otp_telling::starts::{Started, has_start, put_starts, starts_of};
@@ -137,11 +136,8 @@ impl Seat {
             return Err(Halt::HistoryFull);
         }
         self.core.clear_effects();
-        make_room(&mut self.core)?;
-        self.core.prepare()?;
-        let mut numbers = Counter { last };
+        let after = self.core.happen_after(MAX_EVENTS, time, &kind, last)?;
         self.is_whole = false;
-        self.core.step_with(time, &kind, &mut numbers);
         let starts = self.starts.as_slice();
         let scene = Scene {
             time,
@@ -153,7 +149,7 @@ impl Seat {
         put_starts(self.core.effects(), &mut self.starts)?;
         self.strain = strain_after(self.strain, time, self.supervisor.flags(), &self.core);
         self.is_whole = true;
-        Ok(numbers.last)
+        Ok(after)
     }
 
     /// How it bore up so far, however often it was started anew.

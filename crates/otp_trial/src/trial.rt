@@ -13,7 +13,7 @@ use crate::clock::Clock;
 use crate::next::{next_of_seats, place_of_process};
 use crate::planting::{fresh_seats, plant};
 use crate::seat::Seat;
-use otp_core::CutFault;
+use otp_core::EventFault;
 use otp_file::TreeSpec;
 use otp_reason::{Name, Note, Reason};
 use otp_rules::{Call, Item, Kind};
@@ -32,14 +32,18 @@ pub enum Halt {
     OutOfMemory,
 }
 
-impl From<CutFault> for Halt {
+impl From<EventFault> for Halt {
     ghost use Rattle.std.specs.Prelude.{◌≡◌};
-    ghost use Rattle.otp_trial.specs.declared.trial.Halt.TheVariants.{HistoryFull};
+    ghost use Rattle.otp_trial.specs.Halts.{halt_of};
 
-    ghost from_gives = { λ _ halt. halt ≡ HistoryFull };
+    ghost from_gives = { λ fault halt. halt ≡ halt_of fault };
 
-    fn from(_fault: CutFault) -> Self {
-        Halt::HistoryFull
+    /// No order ever waits in a trial.
+    fn from(fault: EventFault) -> Self {
+        match fault {
+            EventFault::HistoryFull => Halt::HistoryFull,
+            EventFault::OutOfMemory | EventFault::OrdersWait => Halt::OutOfMemory,
+        }
     }
 }
 

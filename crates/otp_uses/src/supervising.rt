@@ -72,7 +72,7 @@ fn happen(core: &mut Core, kind: Kind) -> io::Result<()> {
     if numbers.last == u64::MAX {
         return Err(no_room());
     }
-    match core.happen(MAX_EVENTS, 0, kind, &mut numbers) {
+    match core.happen(MAX_EVENTS, 0, &kind, &mut numbers) {
         Ok(_) => Ok(()),
         Err(EventFault::OutOfMemory) => Err(io::Error::from(AllocError)),
         Err(_) => Err(no_room()),

@@ -1,11 +1,12 @@
-use Rattle.std.proofs.Common.{◌≡◌, ℕ, Bool, ◌++◌, List, [], ◌∷◌, ◌∙◌, ap, refl, rules, subst, sym, true}
+use Rattle.std.proofs.Common.{◌≡◌, ℕ, Bool, ◌++◌, List, [], ◌∷◌, ◌∙◌, ap, refl, rules, subst, sym}
 use Rattle.std.specs.List.{All}
+use Rattle.otp_core.specs.Happened.{HappenedAfter}
+use Rattle.otp_spec.specs.declared.limits.TheConstants.{MAX_EVENTS}
 use Rattle.otp_core.specs.View.{View, state_of, stored_state}
 use Rattle.otp_rules.specs.Answers.{IsKeptIn}
 use Rattle.otp_rules.specs.Ends.{last_stamps}
 use Rattle.otp_rules.specs.declared.event.Effect.{Effect}
 use Rattle.otp_rules.specs.declared.event.Event.{Event}
-use Rattle.otp_rules.specs.Run.{state_after}
 use Rattle.otp_rules.specs.State.{State}
 use Rattle.otp_rules.specs.Step.{step}
 use Rattle.otp_spec.specs.declared.flags.SupFlags.{SupFlags}
@@ -16,41 +17,34 @@ use Rattle.otp_telling.specs.declared.strain.Strain.{Strain}
 use Rattle.otp_telling.specs.Story.{event_text, told_lines}
 use Rattle.otp_telling.specs.declared.starts.Started.{Started}
 use Rattle.otp_trial.proofs.Kept.{lines_same}
-use Rattle.otp_trial.proofs.Tellings.{pushed, started_after}
+use Rattle.otp_trial.proofs.Tellings.{started_after}
 use Rattle.otp_trial.proofs.seat.Seat.happen.Goals as goal
 
 pub returns : goal.returns
 unfolding event_text strained_by
 returns c =
     let old : View = c.self.inside.core in
-    let core : View = c.prepare.new.self in
-    let after : View = c.step_with.new.self in
+    let after : View = c.happen_after.new.self in
     let path : List ℕ = c.self.inside.path.items in
     let tells : Bool = c.self.inside.tells in
     let before : List Started = started_by old.base old.history in
-    let ready : core ≡ record old { cut = c.make_room.new.core.cut; effects = []; prepared = true } =
-    c.in_ok-prepare.ensures.ok
-    ∙ ap (λ (v : View). record v { prepared = true }) c.make_room.ensures.core
-    ∙ ap (λ (v : View). record v { cut = c.make_room.new.core.cut; prepared = true }) c.clear_effects.ensures in
-    let event : Event = record { reading = c.args.time; number = c.step_with.result; kind = c.args.kind } in
-    let same : state_of core ≡ state_of old = ap state_of ready in
-    let moved : state_of after ≡ (step (state_of core) event).state =
-    ap (λ (b : State). state_after b after.history) c.step_with.ensures.base ∙ ap (state_after core.base) c.step_with.ensures.history ∙ pushed core.base core.history event in
-    let stepped : state_of after ≡ (step (state_of old) event).state = moved ∙ ap (λ (s : State). (step s event).state) same in
+    let is : HappenedAfter MAX_EVENTS c.max-last.result c.args.time c.args.kind c.clear_effects.new.self after c.in_ok-after.after = c.in_ok-after.ensures.ok in
+    let event : Event = record { reading = c.args.time; number = is.number; kind = c.args.kind } in
+    let cleared : c.clear_effects.new.self ≡ record old { effects = [] } = c.clear_effects.ensures in
+    let same : state_of c.clear_effects.new.self ≡ state_of old = ap state_of cleared in
+    let stepped : state_of after ≡ (step (state_of old) event).state = is.happened.state ∙ ap (λ (s : State). (step s event).state) same in
     let fresh : List Effect = (step (state_of old) event).orders in
     let orders : after.effects ≡ fresh =
-    c.step_with.ensures.effects ∙ ap (λ (xs : List Effect). xs ++ (step (state_of core) event).orders) (ap (λ (v : View). v.effects) ready)
-    ∙ ap (λ (s : State). (step s event).orders) same in
-    let base : after.base ≡ old.base = c.step_with.ensures.base ∙ ap (λ (v : View). v.base) ready in
-    let longer : after.history ≡ old.history ++ event ∷ [] =
-    c.step_with.ensures.history ∙ ap (λ (v : View). v.history ++ event ∷ []) ready in
+    is.happened.effects ∙ ap (λ (v : View). v.effects ++ (step (state_of v) event).orders) cleared in
+    let base : after.base ≡ old.base = is.happened.base ∙ ap (λ (v : View). v.base) cleared in
+    let longer : after.history ≡ old.history ++ event ∷ [] = is.happened.history ∙ ap (λ (v : View). v.history ++ event ∷ []) cleared in
     let kept : c.as_slice-starts.result.now ≡ before = c.as_slice-starts.ensures.value ∙ c.self.invariant.starts (search rules) in
     let Kept : State → Type 0 = λ s. All (IsKeptIn (state_of after).replies (stored_state after).replies) (step s event).orders in
     let lines : told_lines tells c.args.time c.as_slice.result.now c.as_slice-starts.result.now (stored_state after).replies after.effects ≡ event_text tells path before (state_of old) event =
     ap (λ (p : List ℕ). told_lines tells c.args.time p c.as_slice-starts.result.now (stored_state after).replies after.effects) c.as_slice.ensures.value
     ∙ ap (λ (starts : List Started). told_lines tells c.args.time path starts (stored_state after).replies after.effects) kept
     ∙ ap (λ (xs : List Effect). told_lines tells c.args.time path before (stored_state after).replies xs) orders
-    ∙ lines_same tells c.args.time path before (state_of after).replies (stored_state after).replies fresh (subst Kept same c.step_with.ensures.answers)
+    ∙ lines_same tells c.args.time path before (state_of after).replies (stored_state after).replies fresh (subst Kept same is.happened.answers)
     ∙ ap (λ (s : State). told_lines tells c.args.time path before s.replies fresh) stepped in
     let before_it : Strain = c.self.inside.strain in
     let then : Strain = c.strain_after-self-inside.result in
@@ -75,20 +69,14 @@ returns c =
 pub invariant_of-self-2 : goal.invariant_of-self-2
 invariant_of-self-2 c =
     let old : View = c.self.inside.core in
-    let core : View = c.prepare.new.self in
-    let after : View = c.step_with.new.self in
-    let ready : core ≡ record old { cut = c.make_room.new.core.cut; effects = []; prepared = true } =
-    c.in_ok-prepare.ensures.ok
-    ∙ ap (λ (v : View). record v { prepared = true }) c.make_room.ensures.core
-    ∙ ap (λ (v : View). record v { cut = c.make_room.new.core.cut; prepared = true }) c.clear_effects.ensures in
-    let event : Event = record { reading = c.args.time; number = c.step_with.result; kind = c.args.kind } in
-    let same : state_of core ≡ state_of old = ap state_of ready in
+    let after : View = c.happen_after.new.self in
+    let is : HappenedAfter MAX_EVENTS c.max-last.result c.args.time c.args.kind c.clear_effects.new.self after c.in_ok-after.after = c.in_ok-after.ensures.ok in
+    let event : Event = record { reading = c.args.time; number = is.number; kind = c.args.kind } in
+    let cleared : c.clear_effects.new.self ≡ record old { effects = [] } = c.clear_effects.ensures in
     let orders : c.effects.result.now ≡ (step (state_of old) event).orders =
-    c.effects.ensures ∙ c.step_with.ensures.effects ∙ ap (λ (xs : List Effect). xs ++ (step (state_of core) event).orders) (ap (λ (v : View). v.effects) ready)
-    ∙ ap (λ (s : State). (step s event).orders) same in
-    let base : after.base ≡ old.base = c.step_with.ensures.base ∙ ap (λ (v : View). v.base) ready in
-    let longer : after.history ≡ old.history ++ event ∷ [] =
-    c.step_with.ensures.history ∙ ap (λ (v : View). v.history ++ event ∷ []) ready in record {
+    c.effects.ensures ∙ is.happened.effects ∙ ap (λ (v : View). v.effects ++ (step (state_of v) event).orders) cleared in
+    let base : after.base ≡ old.base = is.happened.base ∙ ap (λ (v : View). v.base) cleared in
+    let longer : after.history ≡ old.history ++ event ∷ [] = is.happened.history ∙ ap (λ (v : View). v.history ++ event ∷ []) cleared in record {
       base = base ∙ c.self.invariant.base;
       starts = λ _. started_after old.base after.base old.history after.history event c.self.inside.starts.items c.put_starts.new.starts.items c.effects.result.now
           (c.self.invariant.starts (search rules)) base longer orders c.in_ok-put_starts.ensures;
