@@ -8,7 +8,7 @@ use crate::finding::{Finding, of_table, said_at};
 use crate::owner::Owner;
 use crate::parts::{Found, scan};
 use otp_file::{TableFault, TreeFault, read_located};
-use otp_hints::{what_no_toml, what_nothing};
+use otp_hints::{strange_front, what_no_toml, what_nothing, write_letter};
 use otp_source::{Source, line_behind};
 use std::alloc::{AllocError, Global};
 use toml::Table;
@@ -78,10 +78,22 @@ fn only_text(
 ) -> Result<Vec<Finding>, AllocError>
     ensures { IfOk result (λ findings. BeginsWith fault findings.items) }
 {
-    let place = text_of(alloc, error)?;
+    let mut place = text_of(alloc, error)?;
+    write_strange(rest_of(file, error), &mut place)?;
     let what = what_no_toml(error.message(), file, rest_of(file, error));
     let finding = said_at(alloc, fault, place.as_slice(), what.as_bytes())?;
     put_first(finding.on_line(Some(line_of(file, error))), Vec::new(alloc))
+}
+
+/// Appends which letter stands at the front of a text, where it isn't plain.
+fn write_strange(rest: &[u8], out: &mut Vec<u8>) -> Result<(), AllocError> {
+    match strange_front(rest) {
+        Some(letter) => {
+            out.extend_from_slice(b"; here stands ")?;
+            write_letter(letter, out)
+        }
+        None => Ok(()),
+    }
 }
 
 /// The line on which a text is no document any more.

@@ -8,7 +8,7 @@ use crate::shown::{write_shown, write_value};
 use otp_file::{ChildKey, FlagKey, TreeFault};
 use otp_hints::{
     Key, is_root_header, meant_child_key, meant_flag, meant_word, nearest, small_letters,
-    what_value, words_at, write_allowed,
+    strange_letter, what_value, words_at, write_allowed, write_letter,
 };
 use otp_reason::NAME_SIZE;
 use otp_text::write_number;
@@ -183,11 +183,38 @@ pub(crate) fn of_value(
     let words = words_at(alloc, key)?;
     write_allowed(key, words.as_slice(), &mut rest)?;
     if let Value::String(word) = value {
+        write_strange(word.as_str(), &mut rest)?;
         write_meant_word(alloc, key, word.as_str(), words.as_slice(), &mut rest)?;
     }
     rest.extend_from_slice(what_value(key, value).as_bytes())?;
+    write_header(owner, key, value, &mut rest)?;
     write_count(key, value, &mut rest)?;
     said_of(alloc, fault, owner, rest.as_slice())
+}
+
+/// Appends which letter of a word isn't plain, the first where there are more.
+fn write_strange(word: &str, out: &mut Vec<u8>) -> Result<(), AllocError> {
+    match strange_letter(word) {
+        Some(letter) => {
+            out.extend_from_slice(b"; it has ")?;
+            write_letter(letter, out)
+        }
+        None => Ok(()),
+    }
+}
+
+/// Appends the header of a child of a supervisor that is a child itself, where the table of one stands alone.
+fn write_header(
+    owner: &Owner<'_>,
+    key: Key,
+    value: &Value,
+    out: &mut Vec<u8>,
+) -> Result<(), AllocError> {
+    match (owner, key, value) {
+        (Owner::Supervisor(path), Key::Flag(FlagKey::Child), Value::Table(_)) if !path.is_empty() =>
+            out.extend_from_slice(b": here [[child.tree.child]]"),
+        _ => Ok(()),
+    }
 }
 
 /// Appends which keys are allowed.
@@ -200,14 +227,24 @@ fn write_keys(keys: &[&'static str], out: &mut Vec<u8>) -> Result<(), AllocError
     Ok(())
 }
 
+/// Whether a table is that of a child of a supervisor that is a child itself.
+fn is_nested(owner: &Owner<'_>) -> bool {
+    match owner {
+        Owner::Child(path, ..) | Owner::Supervisor(path) => !path.is_empty(),
+    }
+}
+
 /// Appends where a key of a supervisor belongs that stands in a child's table, or one of a child in a supervisor's: in a file
 /// whatever is written below a `[[child]]` is that child's.
-fn write_home(key: Key, out: &mut Vec<u8>) -> Result<(), AllocError> {
+fn write_home(owner: &Owner<'_>, key: Key, out: &mut Vec<u8>) -> Result<(), AllocError> {
     let home: &[u8] = match key {
         Key::Flag(FlagKey::Child) => {
             return out.extend_from_slice(
                 b"; children of a child stand in its tree: write [[child.tree.child]]",
             );
+        }
+        Key::Flag(_) if is_nested(owner) => {
+            b" belongs to the supervisor: write it below [child.tree], before the first [[child.tree.child]]"
         }
         Key::Flag(_) => b" belongs to the supervisor: write it before the first [[child]]",
         Key::Child(_) => b" belongs to a child: write it below a [[child]]",
@@ -232,7 +269,7 @@ fn write_meant_key(
         Owner::Supervisor(_) => (Key::of_child(key), meant_flag(small.as_str())),
     };
     match (home, meant) {
-        (Some(key), _) => write_home(key, out),
+        (Some(key), _) => write_home(owner, key, out),
         (None, Some(meant)) => write_meant(meant, out),
         (None, None) => write_nearest(alloc, key, keys, out),
     }

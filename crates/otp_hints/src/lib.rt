@@ -3,11 +3,14 @@
 #![tactic(auto)]
 
 mod allowed;
+mod letters;
+mod like;
 mod meant;
 mod near;
 mod no_toml;
 
 pub use allowed::{Key, child_keys, flag_keys, words_at, write_allowed};
+pub use letters::{strange_front, strange_letter, write_letter};
 pub use meant::{is_root_header, meant_child_key, meant_flag, meant_word, what_value};
 pub use near::{nearest, small_letters};
 pub use no_toml::{what_no_toml, what_nothing};

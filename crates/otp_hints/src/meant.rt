@@ -125,7 +125,9 @@ pub fn meant_child_key(key: &str) -> Option<&'static str> {
 pub fn what_value(key: Key, value: &Value) -> &'static str {
     match value {
         Value::String(text) => what_text(key, text.as_str()),
-        Value::Float(_) => what_float(key),
+        Value::Float(number) => what_float(key, *number),
+        Value::Boolean(is_true) => what_truth(key, *is_true),
+        Value::Array(_) if key == Key::Child(ChildKey::Start) => MODULE_ALONE,
         Value::Datetime(_) => what_date(key),
         Value::Table(_) if key == Key::Flag(FlagKey::Child) => {
             "; each child has a header in two brackets"
@@ -134,9 +136,31 @@ pub fn what_value(key: Key, value: &Value) -> &'static str {
     }
 }
 
+/// What to do about a start that is a function with its arguments.
+const MODULE_ALONE: &str = "; write the module alone, without the function and its arguments";
+
+/// What to do about a truth value.
+fn what_truth(key: Key, is_true: bool) -> &'static str {
+    match (key, is_true) {
+        (Key::Child(ChildKey::Restart), true) => "; write \"permanent\"",
+        (Key::Child(ChildKey::Restart), false) => "; write \"temporary\"",
+        (Key::Child(ChildKey::Shutdown), _) => {
+            "; write how many milliseconds it has, or \"brutal_kill\" where it has none"
+        }
+        (Key::Flag(FlagKey::AutoShutdown), true) => {
+            "; write \"any_significant\" or \"all_significant\""
+        }
+        (Key::Flag(FlagKey::AutoShutdown), false) => "; write \"never\"",
+        _ => "",
+    }
+}
+
 /// The same of a number with a fraction.
-fn what_float(key: Key) -> &'static str {
+fn what_float(key: Key, number: f64) -> &'static str {
     match key {
+        Key::Child(ChildKey::Shutdown) if number.is_infinite() => "; write \"infinity\"",
+        Key::Child(ChildKey::Shutdown) if number.is_nan() => "",
+        Key::Flag(_) if !number.is_finite() => "",
         Key::Flag(FlagKey::Intensity | FlagKey::Period) => "; write it without a point",
         Key::Child(ChildKey::Shutdown) => "; write it without a point",
         _ => "",
@@ -163,6 +187,7 @@ fn what_text(key: Key, text: &str) -> &'static str {
             "; write the number of milliseconds, without quotes and without a unit"
         }
         Key::Child(ChildKey::Significant) if is_truth(text) => "; true and false have no quotes",
+        Key::Child(ChildKey::Start) if text.starts_with('{') || text.contains(':') => MODULE_ALONE,
         Key::Child(ChildKey::Modules) if text != "dynamic" => {
             "; names stand in brackets: [\"a\", \"b\"]"
         }

@@ -1,5 +1,7 @@
 //! What to do about a text that is no TOML document.
 
+use crate::like::what_looks_like;
+
 /// What is said of a text that is another language, or an older one.
 const KEYS_AND_VALUES: &str = "; write KEY = VALUE, a line each, and [[child]] before each child";
 
@@ -17,9 +19,10 @@ const UNITS: &str =
 /// What to do about a text that is no document, where that can be told from why, and from the text and what is left of it
 /// where it is none.
 pub fn what_no_toml(message: &str, file: &[u8], rest: &[u8]) -> &'static str {
-    match what_letter(rest) {
-        "" => what_else(message, file, rest),
-        what => what,
+    match (what_looks_like(file), what_letter(rest)) {
+        ("", "") => what_else(message, file, rest),
+        ("", what) => what,
+        (what, _) => what,
     }
 }
 
@@ -43,7 +46,7 @@ fn what_else(message: &str, file: &[u8], rest: &[u8]) -> &'static str {
     }
     match message {
         "invalid UTF-8" => what_bytes(file),
-        "invalid string" => what_string(rest),
+        "invalid string" => what_string(file, rest),
         "invalid escape sequence" =>
             "; in \"..\" write \\\\ for one \\, or put the text between '..'",
         "duplicate key" => what_twice(rest),
@@ -91,8 +94,33 @@ fn what_bytes(file: &[u8]) -> &'static str {
     }
 }
 
+/// The line at the end of these bytes.
+fn last_line(text: &[u8]) -> &[u8] {
+    match text.iter().rposition(|byte| *byte == b'\n') {
+        Some(end) => text.get(end.saturating_add(1)..).unwrap_or(text),
+        None => text,
+    }
+}
+
+/// The quote with which a text begins on the line that ends where the rest begins, and which isn't the one that it ends with.
+fn other_quote(file: &[u8], rest: &[u8]) -> Option<u8> {
+    let read = file.get(..file.len().saturating_sub(rest.len()))?;
+    let line = last_line(read).trim_ascii_end();
+    let begun = line.iter().find(|byte| matches!(byte, b'\'' | b'"'))?;
+    match (begun, line.last()?) {
+        (b'\'', b'"') => Some(b'\''),
+        (b'"', b'\'') => Some(b'"'),
+        _ => None,
+    }
+}
+
 /// What to do about a text that can't go on here.
-fn what_string(rest: &[u8]) -> &'static str {
+fn what_string(file: &[u8], rest: &[u8]) -> &'static str {
+    match other_quote(file, rest) {
+        Some(b'"') => return "; the text begins with \" and has to end with it",
+        Some(_) => return "; the text begins with ' and has to end with it",
+        None => {}
+    }
     match rest {
         [] => "; a text ends with the quote that it begins with",
         [b'\n', ..] | [b'\r', b'\n', ..] => "; a text stands between two quotes, on one line",
