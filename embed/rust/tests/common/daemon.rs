@@ -161,8 +161,10 @@ impl Daemon {
         let mut command = Command::new(PROGRAM);
         command.args(["ctl", "--control"]).arg(self.folder.join("control")).args(words);
         let output = command.output().unwrap();
-        let text = [output.stdout, output.stderr].concat();
-        (output.status.success(), String::from_utf8(text).unwrap())
+        let text = String::from_utf8([output.stdout, output.stderr].concat()).unwrap();
+        // On a busy machine it may be told meanwhile what it waits for.
+        let is_told = |line: &&str| !(line.starts_with("otp-procs: ") && line.contains(" waits: "));
+        (output.status.success(), text.split_inclusive('\n').filter(is_told).collect())
     }
 
     /// The orders and events of the log, without times.
@@ -196,6 +198,10 @@ impl Drop for Daemon {
     fn drop(&mut self) {
         let _ = self.child.kill();
         let _ = self.child.wait();
+        // What its processes have started outlives it.
+        for pid in self.left() {
+            send(pid, KILL);
+        }
         if !thread::panicking() {
             let _ = fs::remove_dir_all(&self.folder);
         }

@@ -210,6 +210,9 @@ impl Daemon {
 
     /// Clients that have waited for a while are told for what: a call has its turn once its supervisor has done what it does.
     pub(crate) fn tell_waiters(&mut self) {
+        if self.end.is_some() {
+            return;
+        }
         let now = self.reading;
         let late = self.waiters.iter_mut().filter(|waiter| waiter.told_at.is_some_and(|at| at <= now));
         let late: Vec<(u64, String, u32)> = late
