@@ -1,5 +1,5 @@
 -- Whose child a supervisor of the tree is, and how it stands.
-use Rattle.std.specs.Prelude.{ℕ, ◌+◌, ◌-◌, ◌^◌, ◌<◌, ◌==◌, All, List, ◌&&◌, ◌||◌, Bool, true, false, Option, Some, None, is_some, min}
+use Rattle.std.specs.Prelude.{ℕ, ◌+◌, ◌-◌, ◌^◌, ◌<◌, ◌==◌, All, List, ◌&&◌, ◌||◌, Bool, true, false, Option, Some, None, is_some, min, position}
 use Rattle.std.specs.Ordering.{on}
 use Rattle.std.specs.Str.{bytes_eq}
 use Rattle.otp_reason.specs.Names.{name_bytes}
@@ -24,10 +24,18 @@ begun process link = record link { process = Some process; is_up = false; is_sto
 abbrev pub asked : Link → Link
 asked link = record link { is_stopping = true }
 
+-- it has told its parent that it is up
+abbrev pub up : Link → Link
+up link = record link { is_up = true }
+
+-- it has no process any more, and ended for this, where that is known
+abbrev pub gone : Option Ending → Link → Link
+gone ended link = record link { process = None; is_up = false; ended = ended }
+
 -- it has told its parent this: that it is up, or else that it has no process any more, and why it ended
 unfoldable pub told : Note → Option Ending → Link → Link
-told (note.Up _) ended link = record link { is_up = true }
-told _ ended link = record link { process = None; is_up = false; ended = ended }
+told (note.Up _) ended link = up link
+told _ ended link = gone ended link
 
 -- it runs, or may: the root is nobody's child, and runs from the beginning
 abbrev pub runs : ℕ → Link → Bool
@@ -46,6 +54,11 @@ is_link_under parent link = link.parent == parent && is_some link.child
 -- it is the child of its parent's row
 abbrev pub is_link_of : ℕ → Row → Link → Bool
 is_link_of parent row link = link.parent == parent && is_child_of row link.child
+
+-- the supervisor of the tree that this child of a supervisor is
+unfoldable pub nested_of : List Link → ℕ → Option Row → Option ℕ
+nested_of links parent None = None
+nested_of links parent (Some row) = position (is_link_of parent row) links
 
 abbrev pub is_process : ℕ → Option ℕ → Bool
 is_process number None = false

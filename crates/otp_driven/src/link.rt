@@ -1,8 +1,8 @@
 //! Whose child each supervisor of a tree is, and how it stands.
 
-ghost use Rattle.std.specs.Prelude.{◌≡◌, position};
+ghost use Rattle.std.specs.Prelude.{◌≡◌, option_map, position};
 ghost use Rattle.std.specs.List.{list_any};
-ghost use Rattle.otp_driven.specs.Links.{asked, begun, first_link, holds_process, is_link_near, is_link_of, is_link_under, note_of_end, runs, told};
+ghost use Rattle.otp_driven.specs.Links.{asked, begun, first_link, gone, holds_process, is_link_near, is_link_of, is_link_under, nested_of, note_of_end, runs, told, up};
 
 use otp_reason::{Note, Reason};
 use otp_rules::Ending;
@@ -73,16 +73,30 @@ impl Link {
         ensures { result ≡ told note ended self }
     {
         match note {
-            Note::Up(_) => Link {
-                is_up: true,
-                ..self
-            },
-            _ => Link {
-                process: None,
-                is_up: false,
-                ended,
-                ..self
-            },
+            Note::Up(_) => self.up(),
+            _ => self.gone(ended),
+        }
+    }
+
+    /// The same once it has told its parent that it is up.
+    pub fn up(self) -> Link
+        ensures { result ≡ up self }
+    {
+        Link {
+            is_up: true,
+            ..self
+        }
+    }
+
+    /// The same once it has no process any more, and why it ended, where that is known.
+    pub fn gone(self, ended: Option<Ending>) -> Link
+        ensures { result ≡ gone ended self }
+    {
+        Link {
+            process: None,
+            is_up: false,
+            ended,
+            ..self
         }
     }
 
@@ -145,6 +159,17 @@ pub fn find_row(links: &[Link], parent: usize, row: &Row) -> Option<usize>
     ensures { result ≡ position (is_link_of parent row.now) links.now }
 {
     links.iter().position(|link| link.is_of(parent, row))
+}
+
+/// The supervisor of the tree that is this child of a supervisor, if it is one.
+#[tactic(auto, unfolding(crate::specs::Links::nested_of))]
+pub fn nested_of(links: &[Link], parent: usize, row: Option<&Row>) -> Option<usize>
+    ensures { result ≡ nested_of links.now parent (option_map (λ r. r.now) row.entry) }
+{
+    match row {
+        None => None,
+        Some(row) => find_row(links, parent, row),
+    }
 }
 
 /// The supervisor that runs as the process of this number, a child of this supervisor.

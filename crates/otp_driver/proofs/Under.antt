@@ -1,44 +1,12 @@
--- Where no child of a supervisor is a supervisor, no row is one.
-use Rattle.std.proofs.Common.{◌≡◌, ◌∙◌, ◌<◌, ◌==◌, ℕ, List, [], ◌∷◌, Option, None, Some, ap, arith, get_or, length, refl, suc, zero}
-use Rattle.std.specs.Prelude.{Bool, true, false, ◌&&◌, ◌||◌, cond, is_some, nat_lt, position, slice_get}
-use Rattle.std.specs.List.{list_any, position_or_len}
-use Rattle.std.proofs.lemmas.Bool.{both_ways, le-ltb}
-use Rattle.std.proofs.lemmas.List.Sums.{position_or_len_is}
-use Rattle.otp_spec.specs.declared.child.ChildSpec.{ChildSpec}
-use Rattle.otp_table.specs.declared.row.Row.{Row}
+-- Where no child of a supervisor is a supervisor, nor runs as a process, the process is none.
+use Rattle.std.proofs.Common.{◌≡◌, ◌<◌, ℕ, List, [], ◌∷◌, Option, None, Some, ap, arith, get_or, length, refl, suc, zero}
+use Rattle.std.specs.Prelude.{false, is_some, position, slice_get}
+use Rattle.std.specs.List.{list_any}
 use Rattle.otp_driven.specs.declared.link.Link.{Link}
-use Rattle.otp_driven.specs.Links.{holds_process, is_child_of, is_link_near, is_link_of, is_link_under}
-use Rattle.otp_driver.specs.Driven.{Driven, is_nested, is_nested_of}
+use Rattle.otp_driven.specs.Links.{holds_process, is_link_near, is_link_under, nested_of}
 use Rattle.otp_driven.specs.Members.{Member, row_at, state_in}
-use Rattle.otp_driver.specs.Routes.{nested_of}
-
-never : (b : Bool) → (b && false) ≡ false
-never true = refl
-never false = refl
-
-unlike : (b c : Bool) → (b && true) ≡ false → (b && c) ≡ false
-unlike true c off = absurd (both_ways true off refl)
-unlike false c off = refl
-
-other_child : (row : Row) (b : Bool) (child : Option ChildSpec) → (b && is_some child) ≡ false → (b && is_child_of row child) ≡ false
-other_child row b None off = never b
-other_child row b (Some spec) off = unlike b (is_child_of row (Some spec)) off
-
-either : (a b : Bool) → (a || b) ≡ false → (a ≡ false) × (b ≡ false)
-either true b off = absurd (both_ways true off refl)
-either false b off = (refl, off)
-
-both_off : (a b : Bool) → a ≡ false → b ≡ false → (a || b) ≡ false
-both_off true b a_off b_off = a_off
-both_off false b a_off b_off = b_off
-
-none_of : (place : ℕ) (row : Row) (links : List Link) → list_any (is_link_under place) links ≡ false
-    → (k : ℕ) (d : Link) → k < length links → is_link_of place row (get_or links k d) ≡ false
-none_of place row [] off k d inside = absurd (omega (arith, inside))
-none_of place row (l ∷ ls) off zero d inside =
-    other_child row (l.parent == place) l.child (either (is_link_under place l) (list_any (is_link_under place) ls) off).0
-none_of place row (l ∷ ls) off (suc k) d inside =
-    none_of place row ls (either (is_link_under place l) (list_any (is_link_under place) ls) off).1 k d (omega (arith, inside))
+use Rattle.otp_driven.proofs.Under.{both_off, either, none_nested, nowhere}
+use Rattle.otp_driver.specs.Driven.{Driven, is_nested, is_nested_of}
 
 -- where none is a child of the supervisor, nor runs as the process, no child is a supervisor
 pub none_under : (place number : ℕ) (links : List Link) → list_any (is_link_near place number) links ≡ false → list_any (is_link_under place) links ≡ false
@@ -56,23 +24,9 @@ none_holds place number (l ∷ ls) off zero d inside =
 none_holds place number (l ∷ ls) off (suc k) d inside =
     none_holds place number ls (either (is_link_near place number l) (list_any (is_link_near place number) ls) off).1 k d (omega (arith, inside))
 
-nowhere : (test : Link → Bool) (links : List Link) (d : Link) → ((k : ℕ) → k < length links → test (get_or links k d) ≡ false) → position test links ≡ None
-nowhere test links d fails =
-    let none : position_or_len test links ≡ length links = position_or_len_is test links (length links) d (omega arith) fails (λ lt. absurd (omega (arith, lt))) in
-    ap (λ (i : ℕ). cond (nat_lt i (length links)) (Some i) None) none ∙ ap (λ (b : Bool). cond b (Some (length links)) None) (le-ltb (length links) (length links) (omega arith))
-
 pub none_runs : (place number : ℕ) (links : List Link) → list_any (is_link_near place number) links ≡ false → position (holds_process place number) links ≡ None
 none_runs place number [] off = refl
 none_runs place number (l ∷ ls) off = nowhere (holds_process place number) (l ∷ ls) l (λ k. none_holds place number (l ∷ ls) off k l)
-
-no_row : (place : ℕ) (row : Row) (links : List Link) → list_any (is_link_under place) links ≡ false → position (is_link_of place row) links ≡ None
-no_row place row [] off = refl
-no_row place row (l ∷ ls) off = nowhere (is_link_of place row) (l ∷ ls) l (λ k. none_of place row (l ∷ ls) off k l)
-
-pub none_nested : (place : ℕ) (row : Option Row) (links : List Link) → list_any (is_link_under place) links ≡ false → nested_of links place row ≡ None
-unfolding nested_of
-none_nested place None links off = refl
-none_nested place (Some row) links off = no_row place row links off
 
 none_near_of : (links : List Link) (place number : ℕ) (o : Option Member) → list_any (is_link_near place number) links ≡ false → is_nested_of links place number o ≡ false
 none_near_of links place number None off = refl

@@ -12,11 +12,11 @@ use Rattle.otp_reason.specs.declared.reason.Reason.{Reason}
 use Rattle.otp_table.specs.declared.row.Row.{Row}
 use Rattle.otp_driven.specs.declared.link.Link.{Link}
 use Rattle.otp_driver.specs.Driven.{IsAt}
-use Rattle.otp_driven.specs.Links.{HaveParents, first_link, holds_process, is_link_of, told}
+use Rattle.otp_driven.specs.Links.{HaveParents, first_link, holds_process, is_link_of, nested_of, told}
 use Rattle.otp_driven.specs.Members.{Member, has_order, row_at}
 use Rattle.otp_reason.specs.declared.note.Note.{Note}
 use Rattle.otp_reason.specs.declared.note.Note.TheVariants as note
-use Rattle.otp_driver.specs.Routes.{IsWithin, end_route, ending_in, nested_of, ready_route, route_of, start_route, stop_route, tell_end, tell_up}
+use Rattle.otp_driver.specs.Routes.{IsWithin, end_route, ending_in, ready_route, route_of, start_route, stop_route, tell_end, tell_up}
 use Rattle.otp_driver.proofs.Each.{each_push}
 
 found : (test : Link → Bool) (links : List Link) (i : ℕ) → position test links ≡ Some i → i < length links

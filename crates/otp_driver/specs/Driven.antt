@@ -14,9 +14,9 @@ use Rattle.otp_driven.specs.declared.fault.DriveFault.TheVariants.{IsNested, NoS
 use Rattle.otp_driven.specs.declared.link.Link.{Link}
 use Rattle.otp_driver.specs.declared.route.Route.{Route}
 use Rattle.otp_driver.specs.declared.route.Route.TheVariants.{Outside, Start, Stop, Tell}
-use Rattle.otp_driven.specs.Links.{asked, begun, holds_process, runs, told}
+use Rattle.otp_driven.specs.Links.{asked, begun, holds_process, nested_of, runs, told}
 use Rattle.otp_driven.specs.Members.{Happens, IsRefused, Member, has_order, passed, row_at, state_in}
-use Rattle.otp_driver.specs.Routes.{nested_of, route_of}
+use Rattle.otp_driver.specs.Routes.{route_of}
 
 -- a tree: its supervisors by the numbers of their tables, whose child each is, the last reading of the clock, the last process
 -- number, and the last number of a call

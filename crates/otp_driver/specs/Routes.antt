@@ -13,13 +13,8 @@ use Rattle.otp_table.specs.declared.row.Row.{Row}
 use Rattle.otp_driven.specs.declared.link.Link.{Link}
 use Rattle.otp_driver.specs.declared.route.Route.{Route}
 use Rattle.otp_driver.specs.declared.route.Route.TheVariants.{Outside, Start, Stop, Tell}
-use Rattle.otp_driven.specs.Links.{holds_process, is_link_of, note_of_end}
+use Rattle.otp_driven.specs.Links.{holds_process, nested_of, note_of_end}
 use Rattle.otp_driven.specs.Members.{row_at}
-
--- the supervisor of the tree that this child of a supervisor is
-unfoldable pub nested_of : List Link → ℕ → Option Row → Option ℕ
-nested_of links place None = None
-nested_of links place (Some row) = position (is_link_of place row) links
 
 -- whom an order reaches is one of so many supervisors
 abbrev pub IsWithin : ℕ → Route → Type 0

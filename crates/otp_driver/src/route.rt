@@ -1,15 +1,15 @@
 //! What an order of a supervisor is in the tree: whom it reaches, and as what.
 
-ghost use Rattle.std.specs.Prelude.{◌≡◌, IsTrue, option_map, slice_get};
+ghost use Rattle.std.specs.Prelude.{◌≡◌, IsTrue, slice_get};
 ghost use Rattle.otp_driver.specs.declared.route.Route.TheVariants.{Outside};
-ghost use Rattle.otp_driver.specs.Routes.{end_route, ending_in, nested_of, ready_route, route_of, start_route, stop_route};
+ghost use Rattle.otp_driver.specs.Routes.{end_route, ending_in, ready_route, route_of, start_route, stop_route};
+ghost use Rattle.otp_driven.specs.Links.{nested_of};
 ghost use Rattle.otp_driven.specs.Members.{row_at, state_in};
 
-use otp_driven::link::{find_process, find_row, has_nested, note_of_end};
+use otp_driven::link::{find_process, has_nested, nested_of, note_of_end};
 use otp_driven::{Link, Supervisor};
 use otp_reason::{Note, Reason};
 use otp_rules::{Cause, Effect, Ending};
-use otp_table::Row;
 
 /// What an order of a supervisor is in the tree.
 #[derive(Clone, Copy, Debug, PartialEq, Eq)]
@@ -29,17 +29,6 @@ pub(crate) fn link_at(links: &[Link], place: usize) -> Option<Link>
 {
     let link = links.get(place)?;
     Some(*link)
-}
-
-/// The supervisor of the tree that is this child of the supervisor at a place.
-#[tactic(auto, unfolding(crate::specs::Routes::nested_of))]
-fn nested_of(links: &[Link], place: usize, row: Option<&Row>) -> Option<usize>
-    ensures { result ≡ nested_of links.now place (option_map (λ r. r.now) row.entry) }
-{
-    match row {
-        None => None,
-        Some(row) => find_row(links, place, row),
-    }
 }
 
 /// The supervisor of the tree that is the child with this process, of the supervisor at a place. Where no child is one, no

@@ -1,18 +1,18 @@
 -- What comes next at a supervisor of a trial, where nobody tells it anything (own).
 use Rattle.std.specs.Prelude.{ℕ, Bool, false, ◌&&◌, List, Option, Some, None, if◌then◌else◌, slice_get}
 use Rattle.std.specs.List.{list_any}
+use Rattle.otp_driven.specs.declared.link.Link.{Link}
 use Rattle.otp_rules.specs.declared.event.Kind.{Kind}
 use Rattle.otp_rules.specs.Next.{next_kind}
 use Rattle.otp_rules.specs.State.{State}
 use Rattle.otp_table.specs.Rows.{has_process, row_has}
 use Rattle.otp_trial.specs.Played.{Seated, state_in}
-use Rattle.otp_world.specs.Homes.{has_process_at, is_stopping_at}
-use Rattle.otp_world.specs.declared.homes.Home.{Home}
+use Rattle.otp_world.specs.Links.{has_process_at, is_stopping_at}
 
 -- what the supervisor at this place does by itself at this time, if it has a process: where its parent wants that it shuts down
 -- as well
-unfoldable pub kind_at : ℕ → List Home → State → ℕ → Option Kind
-kind_at place homes s now = if has_process_at place homes then next_kind s now (is_stopping_at place homes) else None
+unfoldable pub kind_at : ℕ → List Link → State → ℕ → Option Kind
+kind_at place links s now = if has_process_at place links then next_kind s now (is_stopping_at place links) else None
 
 -- a child of it has a process of this number
 unfoldable pub has_child : ℕ → Option Seated → Bool
@@ -20,5 +20,5 @@ has_child process None = false
 has_child process (Some seat) = list_any (row_has (has_process process)) (state_in seat).rows
 
 -- and the supervisor at this place runs
-unfoldable pub runs_child : List Home → List Seated → ℕ → ℕ → Bool
-runs_child homes seats process place = has_process_at place homes && has_child process (slice_get seats place)
+unfoldable pub runs_child : List Link → List Seated → ℕ → ℕ → Bool
+runs_child links seats process place = has_process_at place links && has_child process (slice_get seats place)

@@ -13,7 +13,7 @@ use otp_world::{Deed, What, World};
 /// What the supervisor at this place does by itself at this time, if it has a process.
 #[tactic(auto, unfolding(crate::specs::Next::kind_at))]
 fn kind_at(world: &World, place: usize, seat: &Seat, now: u64) -> Option<Kind>
-    ensures { result ≡ kind_at place world.now.homes (state_in seat.now) now }
+    ensures { result ≡ kind_at place world.now.links (state_in seat.now) now }
 {
     if world.has_process(place) {
         seat.next_kind(now, world.is_stopping(place))
@@ -46,7 +46,7 @@ fn has_child(seat: &Seat, process: u64) -> bool
 #[tactic(auto, unfolding(crate::specs::Next::runs_child, crate::specs::Next::has_child))]
 fn runs_child(world: &World, seats: &[Seat], place: usize, process: u64) -> bool
     requires { place < length seats.now }
-    ensures { result ≡ runs_child world.now.homes seats.now process place }
+    ensures { result ≡ runs_child world.now.links seats.now process place }
 {
     let seat = &seats[place];
     world.has_process(place) && has_child(seat, process)
@@ -56,7 +56,7 @@ fn runs_child(world: &World, seats: &[Seat], place: usize, process: u64) -> bool
 pub(crate) fn place_of_process(world: &World, seats: &[Seat], process: u64) -> usize
     requires { 0 < length seats.now }
     ensures inside { result < length seats.now }
-    ensures child { (result ≡ 0) ⊎ (runs_child world.now.homes seats.now process result ≡ true) }
+    ensures child { (result ≡ 0) ⊎ (runs_child world.now.links seats.now process result ≡ true) }
 {
     for place in 0..seats.len() {
         if runs_child(world, seats, place, process) {

@@ -5,17 +5,17 @@ ghost use Rattle.otp_trial.specs.Played.{AddsTree, IsPlanted, fresh, unplayed};
 
 use crate::seat::Seat;
 use crate::trial::Halt;
+use otp_driven::Link;
 use otp_file::{MAX_DEPTH, TreeSpec};
 use otp_reason::Name;
 use otp_spec::{ChildSpec, SupSpec};
-use otp_world::Home;
 use std::alloc::{AllocError, Global};
 
 /// The supervisors of a tree, a parent before its children, and whose child each of them is.
 #[derive(Drop)]
 pub(crate) struct Plants {
     pub seats: Vec<Seat>,
-    pub homes: Vec<Home>,
+    pub links: Vec<Link>,
 }
 
 /// The path of the children of a child with this id, whose own is this.
@@ -50,12 +50,12 @@ pub(crate) fn seat_of(
 
 impl Plants {
     /// Adds a supervisor, and says at which place.
-    fn add(&mut self, seat: Seat, home: Home) -> Result<usize, AllocError>
+    fn add(&mut self, seat: Seat, link: Link) -> Result<usize, AllocError>
         ensures { OnOk result (self.new.seats.items ≡ self.old.seats.items ++ seat ∷ []) }
     {
         let place = self.seats.len();
         self.seats.push(seat).map_err(|_| AllocError)?;
-        self.homes.push(home).map_err(|_| AllocError)?;
+        self.links.push(link).map_err(|_| AllocError)?;
         Ok(place)
     }
 
@@ -66,7 +66,7 @@ impl Plants {
         tree: &TreeSpec,
         path: &[u8],
         tells: bool,
-        home: Home,
+        link: Link,
         levels: usize,
     ) -> Result<(), Halt>
         ensures { OnOk result (AddsTree tells path.now tree.now self.old.seats.items self.new.seats.items) }
@@ -76,7 +76,7 @@ impl Plants {
             return Err(Halt::OutOfMemory);
         };
         let seat = seat_of(alloc, path, tells, tree.supervisor())?;
-        let place = self.add(seat, home)?;
+        let place = self.add(seat, link)?;
         let trees = tree.trees();
         for number in 0..trees.len() {
             // Nor one that is no child's.
@@ -89,7 +89,7 @@ impl Plants {
                 &trees[number],
                 below.as_slice(),
                 tells,
-                Home::new(place, Some(spec)),
+                Link::new(place, Some(spec)),
                 left,
             )?;
         }
@@ -103,9 +103,9 @@ pub(crate) fn plant(alloc: Global, tree: &TreeSpec, tells: bool) -> Result<Plant
 {
     let mut plants = Plants {
         seats: Vec::new(alloc),
-        homes: Vec::new(alloc),
+        links: Vec::new(alloc),
     };
-    match plants.add_tree(alloc, tree, &[], tells, Home::new(0, None), MAX_DEPTH) {
+    match plants.add_tree(alloc, tree, &[], tells, Link::new(0, None), MAX_DEPTH) {
         Ok(()) => Ok(plants),
         Err(halt) => {
             drop(plants);
@@ -122,7 +122,7 @@ pub(crate) fn plant(alloc: Global, tree: &TreeSpec, tells: bool) -> Result<Plant
 pub fn plant_seats(alloc: Global, tree: &TreeSpec) -> Result<Vec<Seat>, Halt>
     ensures { IfOk result (λ seats. IsPlanted true tree.now seats.items) }
 {
-    let Plants { seats, homes: _ } = plant(alloc, tree, true)?;
+    let Plants { seats, links: _ } = plant(alloc, tree, true)?;
     Ok(seats)
 }
 

@@ -169,7 +169,7 @@ impl Trial {
             alloc,
             seats: plants.seats,
             printer: Printer::new(alloc),
-            world: World::new(alloc, plants.homes),
+            world: World::new(alloc, plants.links),
             clock,
             time: 0,
             calls: 0,

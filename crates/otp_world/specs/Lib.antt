@@ -1,5 +1,5 @@
 pub mod Finding
-pub mod Homes
+pub mod Links
 pub mod Plans
 pub mod Late
 pub mod Deeds

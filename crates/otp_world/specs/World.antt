@@ -8,11 +8,14 @@ use Rattle.otp_reason.specs.declared.reason.Reason.TheVariants as reason
 use Rattle.otp_rules.specs.declared.event.Effect.{Effect}
 use Rattle.otp_rules.specs.declared.event.Effect.TheVariants as effect
 use Rattle.otp_script.specs.declared.step.NextStart.{NextStart}
-use Rattle.otp_world.specs.Deeds.{note_of_end, note_of_start, told_to}
-use Rattle.otp_world.specs.Homes.{ended_at, runs_as, stopping_at, up_at}
+use Rattle.otp_driven.specs.Links.{asked, gone, holds_process, nested_of, note_of_end, up}
+use Rattle.otp_driven.specs.Members.{row_at}
+use Rattle.otp_driven.specs.declared.link.Link.{Link}
+use Rattle.otp_table.specs.declared.row.Row.{Row}
+use Rattle.otp_world.specs.Deeds.{note_of_start, told_to}
 use Rattle.otp_world.specs.Late.{delayed, forgotten}
+use Rattle.otp_world.specs.Links.{changed_at}
 use Rattle.otp_world.specs.Plans.{delay_said, is_hung, plan_for, start_found, without_plan}
-use Rattle.otp_world.specs.declared.homes.Home.{Home}
 use Rattle.otp_world.specs.declared.late.Late.{Late}
 use Rattle.otp_world.specs.declared.plans.Hang.{Hang}
 use Rattle.otp_world.specs.declared.plans.Plan.{Plan}
@@ -22,7 +25,7 @@ use Rattle.otp_world.specs.declared.world.What.TheVariants as what
 -- how the supervisors stand, what the script said beforehand and has not come, what comes late, what comes next, and the line
 -- that is played
 pub record Around : Type 0 where
-  pub homes : List Home
+  pub links : List Link
   pub starts : List Plan
   pub hanging : List Hang
   pub late : List Late
@@ -42,47 +45,48 @@ deed_of_stop place number why None = Some (told_to place (note.Exit number why))
 deed_of_stop place number why (Some below) = None
 
 -- it is wanted to shut down then
-unfoldable pub stopped_below : Option ℕ → List Home → List Home
-stopped_below None homes = homes
-stopped_below (Some below) homes = stopping_at below homes
+unfoldable pub stopped_below : Option ℕ → List Link → List Link
+stopped_below None links = links
+stopped_below (Some below) links = changed_at asked below links
 
 unfoldable pub ready_as : ℕ → Option ℕ → Option Deed
 ready_as parent None = None
 ready_as parent (Some number) = Some (told_to parent (note.Up number))
 
 -- what a supervisor tells its parent that has started its children; the root has none to tell
-unfoldable pub deed_of_ready : Option Home → Option Deed
+unfoldable pub deed_of_ready : Option Link → Option Deed
 deed_of_ready None = None
-deed_of_ready (Some home) = ready_as home.parent home.process
+deed_of_ready (Some link) = ready_as link.parent link.process
 
-unfoldable pub end_as : Home → Reason → Option ℕ → Option Deed
-end_as home why None = None
-end_as home why (Some number) = Some (told_to home.parent (note_of_end home.is_up number why))
+unfoldable pub end_as : Link → Reason → Option ℕ → Option Deed
+end_as link why None = None
+end_as link why (Some number) = Some (told_to link.parent (note_of_end link.is_up number why))
 
 -- what one tells that has ended
-unfoldable pub deed_of_end : Option Home → Reason → Option Deed
+unfoldable pub deed_of_end : Option Link → Reason → Option Deed
 deed_of_end None why = None
-deed_of_end (Some home) why = end_as home why home.process
+deed_of_end (Some link) why = end_as link why link.process
 
 -- the process of this number, of a child of the supervisor at this place, is to end for this reason
 abbrev pub Stops : ℕ → ℕ → Reason → Around → Option Deed → Around → Type 0
 Stops place number why old deed new =
-    (deed ≡ deed_of_stop place number why (position (runs_as place number) old.homes))
-    × (new ≡ record old { homes = stopped_below (position (runs_as place number) old.homes) old.homes })
+    (deed ≡ deed_of_stop place number why (position (holds_process place number) old.links))
+    × (new ≡ record old { links = stopped_below (position (holds_process place number) old.links) old.links })
 
--- a child is started: what the script said of it is used up
-abbrev pub Starts : ℕ → Option Name → ℕ → Around → Deed → Around → Type 0
-Starts place id number old deed new =
-    ((below : Option ℕ) × (deed ≡ deed_of_start place number (start_found old.starts (plan_for place id old.starts)) below))
+-- a child is started, one of these children of the supervisor at this place: what the script said of it is used up. It is a
+-- supervisor with a table of its own where the driver of a tree opens one
+abbrev pub Starts : ℕ → List Row → Option Name → ℕ → Around → Deed → Around → Type 0
+Starts place rows id number old deed new =
+    (deed ≡ deed_of_start place number (start_found old.starts (plan_for place id old.starts)) (nested_of old.links place (row_at rows number)))
     × (new ≡ record old { starts = without_plan old.starts (plan_for place id old.starts) })
 
 -- a supervisor has started its children
 abbrev pub Readies : ℕ → Around → Option Deed → Around → Type 0
-Readies place old deed new = (deed ≡ deed_of_ready (slice_get old.homes place)) × (new ≡ record old { homes = up_at place old.homes })
+Readies place old deed new = (deed ≡ deed_of_ready (slice_get old.links place)) × (new ≡ record old { links = changed_at up place old.links })
 
 -- a supervisor has ended
 abbrev pub Ends : ℕ → Reason → Around → Option Deed → Around → Type 0
-Ends place why old deed new = (deed ≡ deed_of_end (slice_get old.homes place) why) × (new ≡ record old { homes = ended_at place old.homes })
+Ends place why old deed new = (deed ≡ deed_of_end (slice_get old.links place) why) × (new ≡ record old { links = changed_at (gone None) place old.links })
 
 -- a process is asked to shut down of which the script said, at this place, that it ends later or never: that is used up
 abbrev pub PutsOff : ℕ → ℕ → ℕ → ℕ → Around → Around → Type 0
@@ -101,15 +105,15 @@ Asks now place id number old deed new = AsksFor (position (is_hung place id numb
 abbrev pub Kills : ℕ → ℕ → Around → Option Deed → Around → Type 0
 Kills place number old deed new = Stops place number reason.Killed (record old { late = forgotten number old.late }) deed new
 
--- what comes of an order that the supervisor at this place gives now
-unfoldable pub Does : ℕ → ℕ → Effect → Around → Option Deed → Around → Type 0
-Does now place (effect.Start id number) old deed new = IsSomeAnd deed (λ told. Starts place id number old told new)
-Does now place (effect.Ask id number) old deed new = Asks now place id number old deed new
-Does now place (effect.Kill id number) old deed new = Kills place number old deed new
-Does now place (effect.Reply call) old deed new = (deed ≡ None) × (new ≡ old)
-Does now place effect.Ready old deed new = Readies place old deed new
-Does now place (effect.End end) old deed new = Ends place end.reason old deed new
+-- what comes of an order that the supervisor at this place gives now, which has these children
+unfoldable pub Does : ℕ → ℕ → List Row → Effect → Around → Option Deed → Around → Type 0
+Does now place rows (effect.Start id number) old deed new = IsSomeAnd deed (λ told. Starts place rows id number old told new)
+Does now place rows (effect.Ask id number) old deed new = Asks now place id number old deed new
+Does now place rows (effect.Kill id number) old deed new = Kills place number old deed new
+Does now place rows (effect.Reply call) old deed new = (deed ≡ None) × (new ≡ old)
+Does now place rows effect.Ready old deed new = Readies place old deed new
+Does now place rows (effect.End end) old deed new = Ends place end.reason old deed new
 
 -- the process of this number is gone: of what is planned and what comes next nothing changes
 abbrev pub LosesSo : ℕ → Around → Around → Type 0
-LosesSo number old new = new ≡ record old { homes = new.homes; late = forgotten number old.late }
+LosesSo number old new = new ≡ record old { links = new.links; late = forgotten number old.late }

@@ -43,7 +43,7 @@ fn place_of_id(rows: &[Row], id: &Name) -> Option<usize>
 }
 
 /// The place of the child whose process has this number.
-fn place_of_process(rows: &[Row], process: u64) -> Option<usize>
+pub(crate) fn place_of_process(rows: &[Row], process: u64) -> Option<usize>
     ensures place { result ≡ position (row_has (has_process process)) rows.now }
     ensures inside { IfSome result (λ place. place < length rows.now) }
 {

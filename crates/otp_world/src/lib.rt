@@ -5,12 +5,11 @@
 #![tactic(auto)]
 
 pub mod finding;
-pub mod homes;
 pub mod late;
+pub mod links;
 pub mod plans;
 pub mod world;
 
 pub use finding::Found;
-pub use homes::Home;
 pub use plans::{Hang, Plan};
 pub use world::{Deed, What, World};

@@ -1,16 +1,19 @@
 //! The world of a tree that is tried: what processes do, and how supervisors hear of one another.
 
 ghost use Rattle.std.specs.Prelude.{◌≡◌, ◌<◌, ◌++◌, ◌∷◌, [], IfOk, IfSome, MatchOption, OnOk, length};
-ghost use Rattle.otp_world.specs.Deeds.{note_of_end, note_of_start, told_to};
-ghost use Rattle.otp_world.specs.Homes.{begun_at, has_process_at, is_stopping_at, stopping_at};
+ghost use Rattle.otp_driven.specs.Links.{asked, begun};
+ghost use Rattle.otp_world.specs.Deeds.{note_of_start, told_to};
+ghost use Rattle.otp_world.specs.Links.{changed_at, has_process_at, is_stopping_at};
 ghost use Rattle.otp_world.specs.World.{Asks, AsksFor, Does, Ends, Kills, LosesSo, PutsOff, Readies, Starts, Stops, deed_of_end, deed_of_ready, deed_of_start, deed_of_stop, stopped_below};
 
-use crate::homes::{
-    Home, begin_at, end_at, end_orphans, has_process_at, home_at, is_stopping_at, place_of_child,
-    place_of_process, stop_at, up_at,
-};
 use crate::late::{Late, delay, due_at, forget, next_time};
+use crate::links::{
+    begin_at, end_at, end_orphans, has_process_at, is_stopping_at, link_at, nested_at, stop_at,
+    up_at,
+};
 use crate::plans::{Hang, Plan, hang_of, put_hang, put_plan, take_hang, take_start};
+use otp_driven::Link;
+use otp_driven::link::{find_process, note_of_end};
 use otp_reason::{Name, Note, Reason};
 use otp_rules::{Effect, Item, Kind};
 use otp_script::{Child, NextStart};
@@ -38,7 +41,7 @@ pub struct Deed {
 /// asked to shut down ends, unless the script said otherwise; a process that is killed ends always.
 #[derive(Drop)]
 pub struct World {
-    homes: Vec<Home>,
+    links: Vec<Link>,
     starts: Vec<Plan>,
     hanging: Vec<Hang>,
     late: Vec<Late>,
@@ -66,18 +69,6 @@ fn note_of_start(start: Option<NextStart>, number: u64) -> Note
         None => Note::Up(number),
         Some(NextStart::Ignore) => Note::Ignored(number),
         Some(NextStart::Fail(reason)) => Note::Failed(number, reason),
-    }
-}
-
-/// What a supervisor tells its parent when it ends: it has failed to start, if it has not told that it runs.
-#[tactic(auto, unfolding(crate::specs::Deeds::note_of_end))]
-fn note_of_end(is_up: bool, number: u64, reason: Reason) -> Note
-    ensures { result ≡ note_of_end is_up number reason }
-{
-    if is_up {
-        Note::Exit(number, reason)
-    } else {
-        Note::Failed(number, reason)
     }
 }
 
@@ -122,49 +113,49 @@ fn deed_of_stop(place: usize, number: u64, reason: Reason, below: Option<usize>)
 
 /// What a supervisor tells its parent that has started its children.
 #[tactic(auto, unfolding(crate::specs::World::deed_of_ready, crate::specs::World::ready_as))]
-fn deed_of_ready(home: Option<Home>) -> Option<Deed>
-    ensures { result ≡ deed_of_ready home }
+fn deed_of_ready(link: Option<Link>) -> Option<Deed>
+    ensures { result ≡ deed_of_ready link }
 {
-    match home {
+    match link {
         None => None,
-        Some(home) => match home.process {
+        Some(link) => match link.process {
             None => None,
-            Some(number) => Some(told_to(home.parent, Note::Up(number))),
+            Some(number) => Some(told_to(link.parent, Note::Up(number))),
         },
     }
 }
 
 /// What a supervisor tells its parent that has ended with this reason.
 #[tactic(auto, unfolding(crate::specs::World::deed_of_end, crate::specs::World::end_as))]
-fn deed_of_end(home: Option<Home>, reason: Reason) -> Option<Deed>
-    ensures { result ≡ deed_of_end home reason }
+fn deed_of_end(link: Option<Link>, reason: Reason) -> Option<Deed>
+    ensures { result ≡ deed_of_end link reason }
 {
-    match home {
+    match link {
         None => None,
-        Some(home) => match home.process {
+        Some(link) => match link.process {
             None => None,
-            Some(number) => Some(told_to(home.parent, note_of_end(home.is_up, number, reason))),
+            Some(number) => Some(told_to(link.parent, note_of_end(link.is_up, number, reason))),
         },
     }
 }
 
 /// The supervisor below is wanted to shut down, if it is one.
 #[tactic(auto, unfolding(crate::specs::World::stopped_below))]
-fn stop_below(homes: &mut Vec<Home>, below: Option<usize>)
-    ensures { homes.new.items ≡ stopped_below below homes.old.items }
+fn stop_below(links: &mut Vec<Link>, below: Option<usize>)
+    ensures { links.new.items ≡ stopped_below below links.old.items }
 {
     match below {
         None => {}
-        Some(below) => stop_at(homes, below),
+        Some(below) => stop_at(links, below),
     }
 }
 
 /// The same supervisors, of which none has a process.
-fn homes_again(alloc: Global, homes: &[Home]) -> Result<Vec<Home>, AllocError> {
+fn links_again(alloc: Global, links: &[Link]) -> Result<Vec<Link>, AllocError> {
     let mut again = Vec::new(alloc);
-    for home in homes {
+    for link in links {
         again
-            .push(Home::new(home.parent, home.spec))
+            .push(Link::new(link.parent, link.child))
             .map_err(|_| AllocError)?;
     }
     Ok(again)
@@ -172,11 +163,11 @@ fn homes_again(alloc: Global, homes: &[Home]) -> Result<Vec<Home>, AllocError> {
 
 impl World {
     /// A world in which all goes well, with these supervisors; that at place 0 is the root.
-    pub fn new(alloc: Global, homes: Vec<Home>) -> Self
-        ensures { result ≡ record { homes = homes.items; starts = []; hanging = []; late = []; deeds = []; line = 0 } }
+    pub fn new(alloc: Global, links: Vec<Link>) -> Self
+        ensures { result ≡ record { links = links.items; starts = []; hanging = []; late = []; deeds = []; line = 0 } }
     {
         World {
-            homes,
+            links,
             starts: Vec::new(alloc),
             hanging: Vec::new(alloc),
             late: Vec::new(alloc),
@@ -187,8 +178,8 @@ impl World {
 
     /// The same supervisors in a world in which nothing has happened.
     pub fn again(&self, alloc: Global) -> Result<Self, AllocError> {
-        let homes = homes_again(alloc, self.homes.as_slice())?;
-        Ok(World::new(alloc, homes))
+        let links = links_again(alloc, self.links.as_slice())?;
+        Ok(World::new(alloc, links))
     }
 
     /// What is planned from now on is planned by this line.
@@ -259,30 +250,30 @@ impl World {
 
     /// Whether the supervisor at this place has a process. The root always has one.
     pub fn has_process(&self, place: usize) -> bool
-        ensures { result ≡ has_process_at place self.now.homes }
+        ensures { result ≡ has_process_at place self.now.links }
     {
-        has_process_at(self.homes.as_slice(), place)
+        has_process_at(self.links.as_slice(), place)
     }
 
     /// Whether the supervisor at this place is wanted to shut down.
     pub fn is_stopping(&self, place: usize) -> bool
-        ensures { result ≡ is_stopping_at place self.now.homes }
+        ensures { result ≡ is_stopping_at place self.now.links }
     {
-        is_stopping_at(self.homes.as_slice(), place)
+        is_stopping_at(self.links.as_slice(), place)
     }
 
     /// The supervisor at this place is wanted to shut down.
     pub fn stop(&mut self, place: usize)
-        ensures { self.new ≡ record self.old { homes = stopping_at place self.old.homes } }
+        ensures { self.new ≡ record self.old { links = changed_at asked place self.old.links } }
     {
-        stop_at(&mut self.homes, place);
+        stop_at(&mut self.links, place);
     }
 
     /// The supervisor at this place has a process of this number, and starts its children.
     pub fn begin(&mut self, place: usize, process: u64)
-        ensures { self.new ≡ record self.old { homes = begun_at place process self.old.homes } }
+        ensures { self.new ≡ record self.old { links = changed_at (begun process) place self.old.links } }
     {
-        begin_at(&mut self.homes, place, process);
+        begin_at(&mut self.links, place, process);
     }
 
     /// The process of this number, of a child of the supervisor at this place, is gone. If it was a supervisor, all below
@@ -291,7 +282,7 @@ impl World {
         ensures { LosesSo process self.old self.new }
     {
         forget(&mut self.late, process);
-        lose_below(&mut self.homes, place, process);
+        lose_below(&mut self.links, place, process);
     }
 
     /// When a process next does late what it was asked to.
@@ -330,17 +321,17 @@ impl World {
     fn end_process(&mut self, place: usize, number: u64, reason: Reason) -> Option<Deed>
         ensures { Stops place number reason self.old result self.new }
     {
-        let below = place_of_process(self.homes.as_slice(), place, number);
-        stop_below(&mut self.homes, below);
+        let below = find_process(self.links.as_slice(), place, number);
+        stop_below(&mut self.links, below);
         deed_of_stop(place, number, reason, below)
     }
 
     /// What comes of a start that is ordered: the child's process tells how it went, or a supervisor starts.
     fn start(&mut self, place: usize, rows: &[Row], id: &Option<Name>, number: u64) -> Deed
-        ensures { Starts place id.now number self.old result self.new }
+        ensures { Starts place rows.now id.now number self.old result self.new }
     {
         let start = take_start(&mut self.starts, place, id);
-        let below = place_of_child(self.homes.as_slice(), place, rows, id);
+        let below = nested_at(self.links.as_slice(), place, rows, number);
         deed_of_start(place, number, start, below)
     }
 
@@ -348,18 +339,18 @@ impl World {
     fn get_ready(&mut self, place: usize) -> Option<Deed>
         ensures { Readies place self.old result self.new }
     {
-        let home = home_at(self.homes.as_slice(), place);
-        up_at(&mut self.homes, place);
-        deed_of_ready(home)
+        let link = link_at(self.links.as_slice(), place);
+        up_at(&mut self.links, place);
+        deed_of_ready(link)
     }
 
     /// A supervisor has ended, with this reason: so it tells its parent.
     fn end(&mut self, place: usize, reason: Reason) -> Option<Deed>
         ensures { Ends place reason self.old result self.new }
     {
-        let home = home_at(self.homes.as_slice(), place);
-        end_at(&mut self.homes, place);
-        deed_of_end(home, reason)
+        let link = link_at(self.links.as_slice(), place);
+        end_at(&mut self.links, place);
+        deed_of_end(link, reason)
     }
 
     /// A process is asked to shut down of which the script said, at this place of what it said of such, that it ends later or
@@ -425,7 +416,7 @@ impl World {
         rows: &[Row],
         order: &Effect,
     ) -> Result<Option<Deed>, AllocError>
-        ensures { IfOk result (λ deed. Does now place order.now self.old deed self.new) }
+        ensures { IfOk result (λ deed. Does now place rows.now order.now self.old deed self.new) }
     {
         match order {
             Effect::Start(id, number) => Ok(Some(self.start(place, rows, id, *number))),
@@ -460,10 +451,10 @@ impl World {
 
 /// The process of this number, of a child of the supervisor at this place, is gone: if it was a supervisor, all below it are
 /// gone with it.
-fn lose_below(homes: &mut Vec<Home>, place: usize, process: u64) {
-    let below = place_of_process(homes.as_slice(), place, process);
+fn lose_below(links: &mut Vec<Link>, place: usize, process: u64) {
+    let below = find_process(links.as_slice(), place, process);
     if let Some(below) = below {
-        end_at(homes, below);
-        end_orphans(homes);
+        end_at(links, below);
+        end_orphans(links);
     }
 }
