@@ -5,3 +5,4 @@ pub mod Linkings
 pub mod Steps
 pub mod Tellings
 pub mod Under
+pub mod Agree

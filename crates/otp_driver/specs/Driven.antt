@@ -97,6 +97,8 @@ pub record Routed (old new : Driven) : Type 0 where
   pub order : Effect
   pub route : Route
   pub next : IsNext old place order route
+  -- it is the first supervisor that has one
+  pub first : position has_order old.members ≡ Some place
   pub mid : Driven
   pub does : Does route place old mid
   pub takes : Takes place mid new
@@ -124,6 +126,8 @@ pub record ByItself (old new : Driven) : Type 0 where
   pub place : ℕ
   pub kind : Kind
   pub comes : comes_at old place ≡ Some kind
+  -- and nothing does at those before
+  pub first : (before : ℕ) → before < place → comes_at old before ≡ None
   pub event : Occurs place kind old new
 
 abbrev pub Step : Driven → Driven → Type 0

@@ -5,3 +5,4 @@ pub mod DriverInside
 pub mod Turns
 pub mod Opened
 pub mod Sessions
+pub mod Agree

@@ -232,6 +232,7 @@ impl Driver {
     fn do_next(&mut self, place: usize) -> Result<bool, DriveFault>
         requires place { place < length self.old.members }
         requires order { (m : Member) → IsAt self.old.members place m → has_order m ≡ true }
+        requires first { position has_order self.old.members ≡ Some place }
         ensures ok { IfOk result (λ went. Turns went place self.old self.new) }
         ensures err { OnErr result (self.new ≡ self.old) }
         ensures why { IfErr result (λ why. RefusesStep why self.old) }
@@ -278,6 +279,7 @@ impl Driver {
     fn go_on_at(&mut self, place: usize) -> Result<bool, DriveFault>
         requires place { place < length self.old.members }
         requires order { (m : Member) → IsAt self.old.members place m → has_order m ≡ true }
+        requires first { position has_order self.old.members ≡ Some place }
         ensures ok { IfOk result (λ went. Turns went place self.old self.new) }
         ensures err { OnErr result (self.new ≡ self.old) }
         ensures why { IfErr result (λ why. RefusesStep why self.old) }
@@ -322,6 +324,7 @@ impl Driver {
     /// waits.
     fn find_by_itself(&self) -> Option<usize>
         ensures some { IfSome result (λ place. (place < length self.now.members) × (is_some (comes_at self.now place) ≡ true)) }
+        ensures first { IfSome result (λ place. (before : ℕ) → before < place → comes_at self.now before ≡ None) }
         ensures none { IfNone result ((place : ℕ) → place < length self.now.members → comes_at self.now place ≡ None) }
     {
         for place in 0..self.supervisors.len() {
@@ -338,6 +341,7 @@ impl Driver {
         requires taken { AllTaken self.old }
         requires place { place < length self.old.members }
         requires comes { is_some (comes_at self.old place) ≡ true }
+        requires first { (before : ℕ) → before < place → comes_at self.old before ≡ None }
         ensures ok { OnOk result (Step self.old self.new) }
         ensures err { OnErr result (self.new ≡ self.old) }
         ensures why { IfErr result (λ why. RefusesStep why self.old) }

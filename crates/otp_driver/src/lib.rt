@@ -5,6 +5,7 @@
 #![tactic(auto)]
 
 pub mod driver;
+pub mod laws;
 pub mod order;
 pub mod planting;
 pub mod route;

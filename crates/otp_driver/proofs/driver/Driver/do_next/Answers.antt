@@ -12,6 +12,7 @@ returns-then-done-clause-ok c =
       order = c.in-Some.ensures.some.0;
       route = c.in-Some.route;
       next = c.in-Some.ensures.some.1;
+      first = c.requires.first;
       mid = c.carry_out.new.self;
       does = done;
       takes = c.pass.ensures;
