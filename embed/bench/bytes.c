@@ -8,10 +8,10 @@
 static char text[65536];
 static const uint8_t *none = (const uint8_t *)"x";
 
-static uint64_t serve(otp_tree *tree, uint64_t last) {
+static uint64_t serve(otp_tree *tree, uint64_t reading, uint64_t last) {
     otp_order order;
     while (otp_next(tree, &order) == OTP_OK)
-        if (order.kind == OTP_ORDER_START) otp_note(tree, order.supervisor, OTP_UP, last = order.number, 0, none, 0);
+        if (order.kind == OTP_ORDER_START) otp_note(tree, reading, order.supervisor, OTP_UP, last = order.number, 0, none, 0);
     return last;
 }
 
@@ -22,12 +22,11 @@ static void measure(int children) {
     otp_fault fault;
     size_t before = mallinfo2().uordblks;
     if (otp_open(&tree, (const uint8_t *)text, strlen(text), &fault) != OTP_OK) exit(1);
-    uint64_t last = serve(&tree, 0);
+    uint64_t last = serve(&tree, 0, 0);
     size_t opened = mallinfo2().uordblks, most = 0;
     for (uint64_t n = 1; n <= 100000; n++) {
-        otp_tick(&tree, n * 10);
-        otp_note(&tree, 0, OTP_EXIT, last, OTP_ERROR, none, 1);
-        last = serve(&tree, last);
+        otp_note(&tree, n * 10, 0, OTP_EXIT, last, OTP_ERROR, none, 1);
+        last = serve(&tree, n * 10, last);
         size_t now = mallinfo2().uordblks;
         if (now > most) most = now;
     }

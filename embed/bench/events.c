@@ -21,14 +21,13 @@ static double measure(int children, uint64_t count) {
     const uint8_t *none = (const uint8_t *)"x";
     uint64_t last = 0;
     while (otp_next(&tree, &order) == OTP_OK)
-        if (order.kind == OTP_ORDER_START) otp_note(&tree, 0, OTP_UP, last = order.number, 0, none, 0);
+        if (order.kind == OTP_ORDER_START) otp_note(&tree, 0, 0, OTP_UP, last = order.number, 0, none, 0);
     struct timespec begun, ended;
     clock_gettime(CLOCK_MONOTONIC, &begun);
     for (uint64_t n = 1; n <= count; n++) {
-        otp_tick(&tree, n * 10);
-        otp_note(&tree, 0, OTP_EXIT, last, OTP_ERROR, none, 1);
+        otp_note(&tree, n * 10, 0, OTP_EXIT, last, OTP_ERROR, none, 1);
         while (otp_next(&tree, &order) == OTP_OK)
-            if (order.kind == OTP_ORDER_START) otp_note(&tree, 0, OTP_UP, last = order.number, 0, none, 0);
+            if (order.kind == OTP_ORDER_START) otp_note(&tree, n * 10, 0, OTP_UP, last = order.number, 0, none, 0);
     }
     clock_gettime(CLOCK_MONOTONIC, &ended);
     otp_close(&tree);

@@ -9,9 +9,13 @@
  *         while ((status = otp_next(&tree, &order)) == OTP_OK)
  *             carry_out(&order);                        start, ask or kill a process; read an answer; the root's end
  *         wait until otp_deadline(&tree, &time), or until something happens;
- *         otp_tick(&tree, now);                         milliseconds
- *         otp_note(&tree, ...) or otp_call(&tree, ...) or otp_stop(&tree);
+ *         otp_note(&tree, now(), ...) or otp_call(&tree, now(), ...) or otp_stop(&tree, now());     what has happened
+ *         otp_tick(&tree, now());                       what is due by now
  *     }
+ *
+ * A reading of the clock is in milliseconds from any beginning. What is told carries the one at which it happens: restarts and
+ * deadlines are counted from it, however long nothing was told before. Take it after the wait, not before. The tree's clock never
+ * goes back: a reading below an earlier one counts as that one. One above OTP_MAX_READING is refused (OTP_BAD_READING).
  *
  * What follows by itself from what was told (a deadline that has come, a retry, what waited, a nested supervisor's start,
  * shutdown or end) is done by otp_next. So otp_deadline is right once otp_next has answered OTP_NONE.
@@ -194,29 +198,31 @@ uint32_t otp_open(otp_tree *tree, const uint8_t *text, size_t length, otp_fault 
 /* Frees the tree and leaves the handle empty. An empty handle stays empty. */
 void otp_close(otp_tree *tree);
 
-/* The clock is read, in milliseconds from any beginning. A reading below an earlier one counts as that one.
-   Answers OTP_OK, OTP_CLOSED, OTP_BAD_READING. */
+/* The clock is read: what is due by then comes with the next orders. Answers OTP_OK, OTP_CLOSED, OTP_BAD_READING. */
 uint32_t otp_tick(otp_tree *tree, uint64_t reading);
 
-/* The process `number`, whose start supervisor number `supervisor` ordered, tells this: it is up; its start answered `ignore`;
-   its start failed; or it has ended. The last two have a reason, and OTP_SHUTDOWN_WITH and OTP_ERROR a text; else `reason` and
+/* At this reading the process `number`, whose start supervisor number `supervisor` ordered, tells this: it is up; its start
+   answered `ignore`; its start failed; or it has ended. The last two have a reason, and OTP_SHUTDOWN_WITH and OTP_ERROR a text; else `reason` and
    the text are not looked at. A number that no child has changes nothing of the tree.
-   Answers OTP_OK, OTP_CLOSED, OTP_MEMORY, OTP_FULL, OTP_SPENT, OTP_BAD_KIND, OTP_BAD_TEXT, OTP_NO_SUPERVISOR, OTP_NESTED. */
-uint32_t otp_note(otp_tree *tree, uint32_t supervisor, uint32_t kind, uint64_t number, uint32_t reason,
+   Answers OTP_OK, OTP_CLOSED, OTP_MEMORY, OTP_FULL, OTP_SPENT, OTP_BAD_READING, OTP_BAD_KIND, OTP_BAD_TEXT, OTP_NO_SUPERVISOR,
+   OTP_NESTED. */
+uint32_t otp_note(otp_tree *tree, uint64_t reading, uint32_t supervisor, uint32_t kind, uint64_t number, uint32_t reason,
                   const uint8_t *text, size_t length);
 
-/* The root is wanted to shut down. Answers OTP_OK, OTP_CLOSED. */
-uint32_t otp_stop(otp_tree *tree);
+/* The root is wanted to shut down, from this reading on. Answers OTP_OK, OTP_CLOSED, OTP_BAD_READING. */
+uint32_t otp_stop(otp_tree *tree, uint64_t reading);
 
-/* Asks for start_child/2 with a specification. Its answer comes with an order OTP_ORDER_REPLY of that supervisor under the
+/* Asks at this reading for start_child/2 with a specification. Its answer comes with an order OTP_ORDER_REPLY of that supervisor under the
    number `call`. A specification that the rules refuse is answered so there (OTP_BAD_SPEC); a struct that says none is not
    taken: OTP_BAD_KIND or OTP_BAD_NAME.
-   Answers OTP_OK, OTP_CLOSED, OTP_MEMORY, OTP_FULL, OTP_SPENT, OTP_BAD_KIND, OTP_BAD_NAME, OTP_NO_SUPERVISOR. */
-uint32_t otp_start_child(otp_tree *tree, uint32_t supervisor, const otp_spec *spec, uint64_t *call);
+   Answers OTP_OK, OTP_CLOSED, OTP_MEMORY, OTP_FULL, OTP_SPENT, OTP_BAD_READING, OTP_BAD_KIND, OTP_BAD_NAME,
+   OTP_NO_SUPERVISOR. */
+uint32_t otp_start_child(otp_tree *tree, uint64_t reading, uint32_t supervisor, const otp_spec *spec, uint64_t *call);
 
-/* Asks for another call. `id` names the child of OTP_RESTART_CHILD, OTP_DELETE_CHILD, OTP_TERMINATE_CHILD and
+/* Asks at this reading for another call. `id` names the child of OTP_RESTART_CHILD, OTP_DELETE_CHILD, OTP_TERMINATE_CHILD and
    OTP_GET_CHILDSPEC, `number` the process of OTP_TERMINATE_PROCESS; of the others neither is looked at. Answers as above. */
-uint32_t otp_call(otp_tree *tree, uint32_t supervisor, uint32_t kind, const otp_name *id, uint64_t number, uint64_t *call);
+uint32_t otp_call(otp_tree *tree, uint64_t reading, uint32_t supervisor, uint32_t kind, const otp_name *id, uint64_t number,
+                  uint64_t *call);
 
 /* The next order for the outside, which counts as carried out from now on. Each comes once, those of a supervisor in the
    order in which it gave them; orders for supervisors of the tree itself are done by the library.

@@ -2,18 +2,24 @@
 #include "otp.h"
 #include <signal.h>
 #include <stdio.h>
+#include <string.h>
 #include <sys/wait.h>
 #include <time.h>
 #include <unistd.h>
 
 static otp_tree tree = OTP_TREE_INIT;
-static struct { uint64_t number; uint32_t supervisor; pid_t pid; } live[256];
+static struct { uint64_t number; uint32_t supervisor; pid_t pid; int is_asked; } live[256];
 static int count;
 
 static uint64_t now(void) {
     struct timespec t;
     clock_gettime(CLOCK_MONOTONIC, &t);
     return (uint64_t)t.tv_sec * 1000 + (uint64_t)t.tv_nsec / 1000000;
+}
+
+/* What happens is told as of now; without memory for it a second later. */
+static void tell(uint32_t supervisor, uint32_t kind, uint64_t number, uint32_t reason, const char *text) {
+    while (otp_note(&tree, now(), supervisor, kind, number, reason, (const uint8_t *)text, strlen(text)) == OTP_MEMORY) sleep(1);
 }
 
 static void carry_out(const otp_order *order) {
@@ -29,28 +35,41 @@ static void carry_out(const otp_order *order) {
             sigemptyset(&none), sigprocmask(SIG_SETMASK, &none, NULL);
             execlp(program, program, "60", (char *)NULL), _exit(127);
         }
-        if (pid > 0) live[count].number = order->number, live[count].supervisor = order->supervisor, live[count++].pid = pid;
-        otp_note(&tree, order->supervisor, pid > 0 ? OTP_UP : OTP_FAILED, order->number, OTP_ERROR, (const uint8_t *)"fork", 4);
+        if (pid > 0) {
+            live[count].number = order->number, live[count].supervisor = order->supervisor;
+            live[count].pid = pid, live[count++].is_asked = 0;
+        }
+        tell(order->supervisor, pid > 0 ? OTP_UP : OTP_FAILED, order->number, OTP_ERROR, "fork");
     }
     for (int i = 0; i < count; i++)
-        if (live[i].number == order->number && (order->kind == OTP_ORDER_ASK || order->kind == OTP_ORDER_KILL))
+        if (live[i].number == order->number && (order->kind == OTP_ORDER_ASK || order->kind == OTP_ORDER_KILL)) {
+            live[i].is_asked |= order->kind == OTP_ORDER_ASK;
             kill(live[i].pid, order->kind == OTP_ORDER_ASK ? SIGTERM : SIGKILL);
+        }
+}
+
+/* A signal ended it by an error, but for the one by which it was asked, and the one that kills. */
+static void tell_exit(int place, int status) {
+    int by_signal = WIFSIGNALED(status), code = by_signal ? WTERMSIG(status) : WEXITSTATUS(status);
+    uint32_t reason = code ? OTP_ERROR : OTP_NORMAL;
+    if (by_signal && code == SIGKILL) reason = OTP_KILLED;
+    if (by_signal && code == SIGTERM && live[place].is_asked) reason = OTP_SHUTDOWN;
+    char text[20];
+    snprintf(text, sizeof text, "%s_%d", by_signal ? "signal" : "status", code);
+    tell(live[place].supervisor, OTP_EXIT, live[place].number, reason, text);
+    live[place] = live[--count];
 }
 
 static void wait_and_tell(const sigset_t *signals) {
-    uint64_t reading = now(), due = reading + 60000;
+    uint64_t begun = now(), due = begun + 60000;
     otp_deadline(&tree, &due);
-    uint64_t left = due > reading ? due - reading : 0;
+    uint64_t left = due > begun ? due - begun : 0;
     struct timespec wait = {(time_t)(left / 1000), (long)(left % 1000) * 1000000};
-    sigtimedwait(signals, NULL, &wait);
+    if (sigtimedwait(signals, NULL, &wait) == SIGTERM) otp_stop(&tree, now());
     int status;
     for (pid_t pid; (pid = waitpid(-1, &status, WNOHANG)) > 0;)
         for (int i = count - 1; i >= 0; i--)
-            if (live[i].pid == pid) {
-                uint32_t reason = WIFSIGNALED(status) ? OTP_SHUTDOWN : WEXITSTATUS(status) ? OTP_ERROR : OTP_NORMAL;
-                otp_note(&tree, live[i].supervisor, OTP_EXIT, live[i].number, reason, (const uint8_t *)"failed", 6);
-                live[i] = live[--count];
-            }
+            if (live[i].pid == pid) tell_exit(i, status);
 }
 
 int main(int argc, char **argv) {
@@ -62,7 +81,7 @@ int main(int argc, char **argv) {
     otp_fault fault;
     if (otp_open(&tree, text, length, &fault) != OTP_OK) return fprintf(stderr, "the tree is refused\n"), 1;
     sigset_t signals;
-    sigemptyset(&signals), sigaddset(&signals, SIGCHLD), sigprocmask(SIG_BLOCK, &signals, NULL);
+    sigemptyset(&signals), sigaddset(&signals, SIGCHLD), sigaddset(&signals, SIGTERM), sigprocmask(SIG_BLOCK, &signals, NULL);
     for (otp_order order = {0}; order.kind != OTP_ORDER_END;) {
         otp_tick(&tree, now());
         while (order.kind != OTP_ORDER_END && otp_next(&tree, &order) == OTP_OK) carry_out(&order);

@@ -1,5 +1,5 @@
 -- What is told to a tree, as the numbers and texts of a call say it, and what the call answers (own).
-use Rattle.std.specs.Prelude.{◌≡◌, ℕ, ◌<◌, ◌≤◌, ◌⊎◌, ⊤, false, List, Result, Ok, Err, IsTrue, max}
+use Rattle.std.specs.Prelude.{◌≡◌, ℕ, ◌<◌, ◌≤◌, ◌⊎◌, ⊤, false, List, Result, Ok, Err, IsTrue}
 use Rattle.otp_reason.specs.Texts.{is_lawful_text}
 use Rattle.otp_reason.specs.declared.note.Note.{Note}
 use Rattle.otp_reason.specs.declared.note.Note.TheVariants as note
@@ -10,7 +10,7 @@ use Rattle.otp_rules.specs.declared.event.Kind.TheVariants as event_kind
 use Rattle.otp_spec.specs.declared.limits.TheConstants.{MAX_READING}
 use Rattle.otp_driven.specs.declared.fault.DriveFault.{DriveFault}
 use Rattle.otp_driver.specs.declared.session.Session.{Session}
-use Rattle.otp_driver.specs.Driven.{Called, IsAsked, Occurs, RefusesCall, RefusesNote, is_nested, process_of}
+use Rattle.otp_driver.specs.Driven.{Called, at_reading, IsAsked, Occurs, RefusesCall, RefusesNote, is_nested, process_of}
 use Rattle.otp_shapes.specs.declared.status.TheConstants.{OTP_BAD_KIND, OTP_BAD_NAME, OTP_BAD_READING, OTP_BAD_TEXT, OTP_OK}
 use Rattle.otp_shapes.specs.declared.structs.CName.{CName}
 use Rattle.otp_shapes.specs.declared.structs.CSpec.{CSpec}
@@ -24,7 +24,7 @@ use Rattle.otp_shapes.specs.Words.{note_kind_number}
 -- the clock is read, if the reading is one
 abbrev pub Ticks : ℕ → ℕ → Session → Session → Type 0
 Ticks reading status old new =
-    ((status ≡ OTP_OK) × (reading ≤ MAX_READING) × (new ≡ record old { driver = record old.driver { reading = max old.driver.reading reading } }))
+    ((status ≡ OTP_OK) × (reading ≤ MAX_READING) × (new ≡ record old { driver = at_reading reading old.driver }))
     ⊎ ((status ≡ OTP_BAD_READING) × (MAX_READING < reading) × (new ≡ old))
 
 abbrev pub HasReason : ℕ → Type 0
@@ -42,24 +42,27 @@ NoteSaid kind number why bytes (Ok n) = (kind ≡ note_kind_number n) × SaysNot
 NoteSaid kind number why bytes (Err unsaid.Kind) = IsOutside 1 4 kind ⊎ (HasReason kind × IsOutside 1 7 why)
 NoteSaid kind number why bytes (Err unsaid.Text) = HasReason kind × HasText why × ¬ (IsTrue (is_lawful_text bytes))
 
--- a note is taken by the supervisor at this place, or refused
-abbrev pub TakesNote : ℕ → Note → ℕ → Session → Session → Type 0
-TakesNote place n status old new =
-    ((status ≡ OTP_OK) × (is_nested old.driver place (process_of n) ≡ false) × Occurs place (event_kind.Took (item.Note n)) old.driver new.driver × (new.answer ≡ old.answer))
-    ⊎ ((why : DriveFault) × (status ≡ status_of why) × RefusesNote place n why old.driver × (new ≡ old))
+-- a note is taken by the supervisor at this place, as of this reading of the clock, or refused
+abbrev pub TakesNote : ℕ → ℕ → Note → ℕ → Session → Session → Type 0
+TakesNote reading place n status old new =
+    ((status ≡ OTP_OK) × (reading ≤ MAX_READING) × (is_nested old.driver place (process_of n) ≡ false)
+    × Occurs place (event_kind.Took (item.Note n)) (at_reading reading old.driver) new.driver × (new.answer ≡ old.answer))
+    ⊎ ((why : DriveFault) × (status ≡ status_of why) × RefusesNote reading place n why old.driver × (new ≡ old))
 
-abbrev pub AnswersNote : Result Note NoReason → ℕ → ℕ → Session → Session → Type 0
-AnswersNote (Ok n) place status old new = TakesNote place n status old new
-AnswersNote (Err unsaid.Kind) place status old new = (status ≡ OTP_BAD_KIND) × (new ≡ old)
-AnswersNote (Err unsaid.Text) place status old new = (status ≡ OTP_BAD_TEXT) × (new ≡ old)
+abbrev pub AnswersNote : Result Note NoReason → ℕ → ℕ → ℕ → Session → Session → Type 0
+AnswersNote (Ok n) reading place status old new = TakesNote reading place n status old new
+AnswersNote (Err unsaid.Kind) reading place status old new = (status ≡ OTP_BAD_KIND) × (new ≡ old)
+AnswersNote (Err unsaid.Text) reading place status old new = (status ≡ OTP_BAD_TEXT) × (new ≡ old)
 
-abbrev pub Notes : ℕ → ℕ → ℕ → ℕ → List ℕ → ℕ → Session → Session → Type 0
-Notes place kind number why bytes status old new =
-    (said : Result Note NoReason) × NoteSaid kind number why bytes said × AnswersNote said place status old new
+abbrev pub Notes : ℕ → ℕ → ℕ → ℕ → ℕ → List ℕ → ℕ → Session → Session → Type 0
+Notes reading place kind number why bytes status old new =
+    (said : Result Note NoReason) × NoteSaid kind number why bytes said × AnswersNote said reading place status old new
 
--- the root is wanted to shut down
-abbrev pub Stops : ℕ → Session → Session → Type 0
-Stops status old new = (status ≡ OTP_OK) × IsAsked old.driver new.driver × (new.answer ≡ old.answer)
+-- the root is wanted to shut down from this reading of the clock on, if it is one
+abbrev pub Stops : ℕ → ℕ → Session → Session → Type 0
+Stops reading status old new =
+    ((status ≡ OTP_OK) × (reading ≤ MAX_READING) × IsAsked (at_reading reading old.driver) new.driver × (new.answer ≡ old.answer))
+    ⊎ ((status ≡ OTP_BAD_READING) × (MAX_READING < reading) × (new ≡ old))
 
 abbrev pub call_kind_number : Call → ℕ
 call_kind_number (call.StartChild _) = 0
@@ -100,15 +103,17 @@ abbrev pub StartSaid : CSpec → Result Call ℕ → Type 0
 StartSaid said (Ok c) = IsStartOf said c
 StartSaid said (Err status) = SpecSaid said (Err status)
 
--- a call is taken by the supervisor at this place under the next number, which is told; or it is refused
-abbrev pub TakesCall : ℕ → Call → ℕ → ℕ → ℕ → Session → Session → Type 0
-TakesCall place c status out out' old new =
-    ((status ≡ OTP_OK) × Called out' place c old.driver new.driver × (new.answer ≡ old.answer))
-    ⊎ ((why : DriveFault) × (status ≡ status_of why) × RefusesCall place why old.driver × (out' ≡ out) × (new ≡ old))
+-- a call is taken by the supervisor at this place, as of this reading of the clock, under the next number, which is told; or it is
+-- refused
+abbrev pub TakesCall : ℕ → ℕ → Call → ℕ → ℕ → ℕ → Session → Session → Type 0
+TakesCall reading place c status out out' old new =
+    ((status ≡ OTP_OK) × (reading ≤ MAX_READING) × Called out' place c (at_reading reading old.driver) new.driver × (new.answer ≡ old.answer))
+    ⊎ ((why : DriveFault) × (status ≡ status_of why) × RefusesCall reading place why old.driver × (out' ≡ out) × (new ≡ old))
 
-abbrev pub AnswersCall : Result Call ℕ → ℕ → ℕ → ℕ → ℕ → Session → Session → Type 0
-AnswersCall (Ok c) place status out out' old new = TakesCall place c status out out' old new
-AnswersCall (Err why) place status out out' old new = (status ≡ why) × (out' ≡ out) × (new ≡ old)
+abbrev pub AnswersCall : Result Call ℕ → ℕ → ℕ → ℕ → ℕ → ℕ → Session → Session → Type 0
+AnswersCall (Ok c) reading place status out out' old new = TakesCall reading place c status out out' old new
+AnswersCall (Err why) reading place status out out' old new = (status ≡ why) × (out' ≡ out) × (new ≡ old)
 
-abbrev pub Calls : (Result Call ℕ → Type 0) → ℕ → ℕ → ℕ → ℕ → Session → Session → Type 0
-Calls Said place status out out' old new = (said : Result Call ℕ) × Said said × AnswersCall said place status out out' old new
+abbrev pub Calls : (Result Call ℕ → Type 0) → ℕ → ℕ → ℕ → ℕ → ℕ → Session → Session → Type 0
+Calls Said reading place status out out' old new =
+    (said : Result Call ℕ) × Said said × AnswersCall said reading place status out out' old new

@@ -1,4 +1,4 @@
-//! What is told to a tree: the clock, notes, calls, the stop.
+//! What is told to a tree: the clock, notes, calls, the stop. Each of them carries the reading of the clock at which it happens.
 
 ghost use Rattle.std.specs.Prelude.{◌≡◌, None};
 ghost use Rattle.otp_c.specs.Handles.{IsKept, IsTold, OnTree};
@@ -57,11 +57,16 @@ fn note_in(kind: u32, number: u64, reason: u32, text: &[u8]) -> Result<Note, NoR
     }
 }
 
-fn answer_note(session: &mut Session, place: usize, said: &Result<Note, NoReason>) -> u32
-    ensures { AnswersNote said.now place result session.old session.new }
+fn answer_note(
+    session: &mut Session,
+    reading: u64,
+    place: usize,
+    said: &Result<Note, NoReason>,
+) -> u32
+    ensures { AnswersNote said.now reading place result session.old session.new }
 {
     match said {
-        Ok(said) => match session.driver.note(place, said) {
+        Ok(said) => match session.driver.note(reading, place, said) {
             Ok(()) => OTP_OK,
             Err(fault) => status_of(fault),
         },
@@ -72,16 +77,17 @@ fn answer_note(session: &mut Session, place: usize, said: &Result<Note, NoReason
 
 fn tell(
     session: &mut Session,
+    reading: u64,
     place: usize,
     kind: u32,
     number: u64,
     reason: u32,
     text: &[u8],
 ) -> u32
-    ensures { Notes place kind number reason text.now result session.old session.new }
+    ensures { Notes reading place kind number reason text.now result session.old session.new }
 {
     let said = note_in(kind, number, reason, text);
-    answer_note(session, place, &said)
+    answer_note(session, reading, place, &said)
 }
 
 /// A process outside tells its supervisor something.
@@ -89,44 +95,68 @@ fn tell(
 pub extern "C" fn otp_note(
     alloc: Global,
     tree: &mut Handle,
+    reading: u64,
     supervisor: u32,
     kind: u32,
     number: u64,
     reason: u32,
     text: &[u8],
 ) -> u32
-    ensures notes { OnTree tree.old.room.held tree.new.room.held (Notes supervisor kind number reason text.now result) }
+    ensures notes { OnTree tree.old.room.held tree.new.room.held (Notes reading supervisor kind number reason text.now result) }
     ensures closed { IsTold tree.old.room.held result }
     ensures kept { IsKept tree.old.room.held tree.new.room.held }
 {
     let Some(mut held) = tree.take(alloc) else {
         return OTP_CLOSED;
     };
-    let status = tell(&mut held, supervisor as usize, kind, number, reason, text);
+    let status = tell(
+        &mut held,
+        reading,
+        supervisor as usize,
+        kind,
+        number,
+        reason,
+        text,
+    );
     tree.put(held);
     status
 }
 
+fn stop(session: &mut Session, reading: u64) -> u32
+    ensures { Stops reading result session.old session.new }
+{
+    match session.driver.stop(reading) {
+        Ok(()) => OTP_OK,
+        Err(_) => OTP_BAD_READING,
+    }
+}
+
 /// The root is wanted to shut down.
 #[unsafe(no_mangle)]
-pub extern "C" fn otp_stop(alloc: Global, tree: &mut Handle) -> u32
-    ensures stops { OnTree tree.old.room.held tree.new.room.held (Stops result) }
+pub extern "C" fn otp_stop(alloc: Global, tree: &mut Handle, reading: u64) -> u32
+    ensures stops { OnTree tree.old.room.held tree.new.room.held (Stops reading result) }
     ensures closed { IsTold tree.old.room.held result }
     ensures kept { IsKept tree.old.room.held tree.new.room.held }
 {
     let Some(mut held) = tree.take(alloc) else {
         return OTP_CLOSED;
     };
-    held.driver.stop();
+    let status = stop(&mut held, reading);
     tree.put(held);
-    OTP_OK
+    status
 }
 
-fn answer_call(session: &mut Session, place: usize, said: Result<Call, u32>, out: &mut u64) -> u32
-    ensures { AnswersCall said place result out.old out.new session.old session.new }
+fn answer_call(
+    session: &mut Session,
+    reading: u64,
+    place: usize,
+    said: Result<Call, u32>,
+    out: &mut u64,
+) -> u32
+    ensures { AnswersCall said reading place result out.old out.new session.old session.new }
 {
     match said {
-        Ok(said) => match session.driver.call(place, said) {
+        Ok(said) => match session.driver.call(reading, place, said) {
             Ok(number) => {
                 *out = number;
                 OTP_OK
@@ -143,11 +173,11 @@ fn start_in(spec: &CSpec) -> Result<Call, u32>
     Ok(Call::StartChild(spec_in(spec)?))
 }
 
-fn start(session: &mut Session, place: usize, spec: &CSpec, out: &mut u64) -> u32
-    ensures { Calls (StartSaid spec.now) place result out.old out.new session.old session.new }
+fn start(session: &mut Session, reading: u64, place: usize, spec: &CSpec, out: &mut u64) -> u32
+    ensures { Calls (StartSaid spec.now) reading place result out.old out.new session.old session.new }
 {
     let said = start_in(spec);
-    answer_call(session, place, said, out)
+    answer_call(session, reading, place, said, out)
 }
 
 /// Asks for start_child with a specification.
@@ -155,11 +185,12 @@ fn start(session: &mut Session, place: usize, spec: &CSpec, out: &mut u64) -> u3
 pub extern "C" fn otp_start_child(
     alloc: Global,
     tree: &mut Handle,
+    reading: u64,
     supervisor: u32,
     spec: &CSpec,
     out: &mut u64,
 ) -> u32
-    ensures calls { OnTree tree.old.room.held tree.new.room.held (Calls (StartSaid spec.now) supervisor result out.old out.new) }
+    ensures calls { OnTree tree.old.room.held tree.new.room.held (Calls (StartSaid spec.now) reading supervisor result out.old out.new) }
     ensures unsaid { tree.old.room.held ≡ None → out.new ≡ out.old }
     ensures closed { IsTold tree.old.room.held result }
     ensures kept { IsKept tree.old.room.held tree.new.room.held }
@@ -167,7 +198,7 @@ pub extern "C" fn otp_start_child(
     let Some(mut held) = tree.take(alloc) else {
         return OTP_CLOSED;
     };
-    let status = start(&mut held, supervisor as usize, spec, out);
+    let status = start(&mut held, reading, supervisor as usize, spec, out);
     tree.put(held);
     status
 }
@@ -191,16 +222,17 @@ fn call_in(kind: u32, id: &CName, number: u64) -> Result<Call, u32>
 
 fn ask(
     session: &mut Session,
+    reading: u64,
     place: usize,
     kind: u32,
     id: &CName,
     number: u64,
     out: &mut u64,
 ) -> u32
-    ensures { Calls (CallSaid kind id.now number) place result out.old out.new session.old session.new }
+    ensures { Calls (CallSaid kind id.now number) reading place result out.old out.new session.old session.new }
 {
     let said = call_in(kind, id, number);
-    answer_call(session, place, said, out)
+    answer_call(session, reading, place, said, out)
 }
 
 /// Asks for another call.
@@ -208,13 +240,14 @@ fn ask(
 pub extern "C" fn otp_call(
     alloc: Global,
     tree: &mut Handle,
+    reading: u64,
     supervisor: u32,
     kind: u32,
     id: &CName,
     number: u64,
     out: &mut u64,
 ) -> u32
-    ensures calls { OnTree tree.old.room.held tree.new.room.held (Calls (CallSaid kind id.now number) supervisor result out.old out.new) }
+    ensures calls { OnTree tree.old.room.held tree.new.room.held (Calls (CallSaid kind id.now number) reading supervisor result out.old out.new) }
     ensures unsaid { tree.old.room.held ≡ None → out.new ≡ out.old }
     ensures closed { IsTold tree.old.room.held result }
     ensures kept { IsKept tree.old.room.held tree.new.room.held }
@@ -222,7 +255,15 @@ pub extern "C" fn otp_call(
     let Some(mut held) = tree.take(alloc) else {
         return OTP_CLOSED;
     };
-    let status = ask(&mut held, supervisor as usize, kind, id, number, out);
+    let status = ask(
+        &mut held,
+        reading,
+        supervisor as usize,
+        kind,
+        id,
+        number,
+        out,
+    );
     tree.put(held);
     status
 }

@@ -1,5 +1,5 @@
 -- A tree of supervisors that is driven, and how it goes on (own).
-use Rattle.std.specs.Prelude.{◌≡◌, ℕ, ◌+◌, ◌-◌, ◌^◌, ◌<◌, ◌≤◌, ◌⊎◌, Bool, true, false, List, [], ◌∷◌, Option, Some, None, is_some, ◌||◌, length, map, slice_get, slice_index_or, slice_set, if◌then◌else◌, position}
+use Rattle.std.specs.Prelude.{◌≡◌, ℕ, ◌+◌, ◌-◌, ◌^◌, ◌<◌, ◌≤◌, ◌⊎◌, Bool, true, false, List, [], ◌∷◌, Option, Some, None, is_some, ◌||◌, length, map, max, slice_get, slice_index_or, slice_set, if◌then◌else◌, position}
 use Rattle.otp_reason.specs.declared.note.Note.{Note}
 use Rattle.otp_reason.specs.declared.note.Note.TheVariants as note
 use Rattle.otp_rules.specs.declared.call.Call.{Call}
@@ -10,7 +10,7 @@ use Rattle.otp_rules.specs.declared.event.Kind.TheVariants as kind
 use Rattle.otp_rules.specs.Next.{earlier, next_deadline, next_kind}
 use Rattle.otp_spec.specs.declared.limits.TheConstants.{MAX_READING}
 use Rattle.otp_driven.specs.declared.fault.DriveFault.{DriveFault}
-use Rattle.otp_driven.specs.declared.fault.DriveFault.TheVariants.{IsNested, NoSupervisor, Spent}
+use Rattle.otp_driven.specs.declared.fault.DriveFault.TheVariants.{BadReading, IsNested, NoSupervisor, Spent}
 use Rattle.otp_driven.specs.declared.link.Link.{Link}
 use Rattle.otp_driver.specs.declared.route.Route.{Route}
 use Rattle.otp_driver.specs.declared.route.Route.TheVariants.{Outside, Start, Stop, Tell}
@@ -26,6 +26,10 @@ pub record Driven : Type 0 where
   pub reading : ℕ
   pub last : ℕ
   pub calls : ℕ
+
+-- at this reading of the clock; one that falls counts as the last one
+abbrev pub at_reading : ℕ → Driven → Driven
+at_reading reading t = record t { reading = max t.reading reading }
 
 -- at this place stands this supervisor
 pub record IsAt (members : List Member) (place : ℕ) (member : Member) : Type 0 where
@@ -207,15 +211,23 @@ process_of (note.Ignored p) = p
 process_of (note.Failed p _) = p
 process_of (note.Exit p _) = p
 
+-- why nothing of a supervisor at this place, told with this reading, is taken before it is looked at further: there is no such reading,
+-- or else there is no such supervisor
+abbrev pub RefusesAt : ℕ → ℕ → DriveFault → Driven → Type 0
+RefusesAt reading place why t =
+    ((why ≡ BadReading) × (MAX_READING < reading)) ⊎ ((why ≡ NoSupervisor) × (reading ≤ MAX_READING) × (length t.members ≤ place))
+
 -- why a note isn't taken
-abbrev pub RefusesNote : ℕ → Note → DriveFault → Driven → Type 0
-RefusesNote place note why t =
-    ((why ≡ NoSupervisor) × (length t.members ≤ place))
-    ⊎ (((why ≡ IsNested) × (place < length t.members) × (is_nested t place (process_of note) ≡ true)) ⊎ Refuses place why t)
+abbrev pub RefusesNote : ℕ → ℕ → Note → DriveFault → Driven → Type 0
+RefusesNote reading place note why t =
+    RefusesAt reading place why t
+    ⊎ ((reading ≤ MAX_READING)
+    × (((why ≡ IsNested) × (place < length t.members) × (is_nested t place (process_of note) ≡ true)) ⊎ Refuses place why t))
 
 -- why a call isn't taken: beside what refuses any event the numbers of calls may be used up
-abbrev pub RefusesCall : ℕ → DriveFault → Driven → Type 0
-RefusesCall place why t = ((why ≡ NoSupervisor) × (length t.members ≤ place)) ⊎ (((why ≡ Spent) × (MAX_READING ≤ t.calls)) ⊎ Refuses place why t)
+abbrev pub RefusesCall : ℕ → ℕ → DriveFault → Driven → Type 0
+RefusesCall reading place why t =
+    RefusesAt reading place why t ⊎ ((reading ≤ MAX_READING) × (((why ≡ Spent) × (place < length t.members) × (MAX_READING ≤ t.calls)) ⊎ Refuses place why t))
 
 -- a call comes under this number, the next of the tree
 abbrev pub Called : ℕ → ℕ → Call → Driven → Driven → Type 0

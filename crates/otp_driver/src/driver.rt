@@ -4,7 +4,7 @@ ghost use Rattle.std.specs.Prelude.{Err, IsTrue, true, false, ◌≡◌, ◌<◌
 ghost use Rattle.otp_rules.specs.declared.event.Item.TheVariants as item;
 ghost use Rattle.otp_rules.specs.declared.event.Kind.TheVariants as kind;
 ghost use Rattle.otp_spec.specs.declared.limits.TheConstants.{MAX_READING};
-ghost use Rattle.otp_driver.specs.Driven.{AllTaken, Called, Carried, Does, GoesOn, IsAsked, IsAt, is_nested, IsNextBy, IsOutside, least_deadline, process_of, Occurs, Refuses, RefusesCall, RefusesMore, RefusesNote, RefusesRoute, RefusesStep, Relinks, Stands, Step, Takes, comes_at, with_link};
+ghost use Rattle.otp_driver.specs.Driven.{AllTaken, at_reading, Called, Carried, Does, GoesOn, IsAsked, IsAt, is_nested, IsNextBy, IsOutside, least_deadline, process_of, Occurs, Refuses, RefusesCall, RefusesMore, RefusesNote, RefusesRoute, RefusesStep, Relinks, Stands, Step, Takes, comes_at, with_link};
 ghost use Rattle.otp_rules.specs.Next.{earlier};
 ghost use Rattle.otp_driven.specs.declared.fault.DriveFault.TheVariants as fault;
 ghost use Rattle.otp_driver.specs.declared.route.Route.TheVariants as route;
@@ -33,8 +33,8 @@ use std::marker::Model;
 ///         driver.took(place);
 ///     }
 ///     wait(driver.next_deadline());
-///     driver.tick(now)?;                                   // milliseconds
-///     driver.note(place, &Note::Exit(number, reason))?;    // what a process tells, a call, or the stop
+///     driver.note(now(), place, &Note::Exit(number, reason))?;     // what a process tells, a call, or the stop: and when
+///     driver.tick(now())?;                                         // milliseconds; what is due by now
 /// }
 /// ```
 ///
@@ -101,15 +101,27 @@ impl Driver {
         self.reading
     }
 
-    /// Something happens now at the supervisor at this place.
+    /// Something happens at the supervisor at this place, at this reading of the clock, which is the last one from then on.
+    fn happen_at(&mut self, reading: u64, place: usize, kind: &Kind) -> Result<(), DriveFault>
+        requires reading { reading ≤ MAX_READING }
+        requires place { place < length self.old.members }
+        ensures ok { OnOk result (Occurs place kind.now (record self.old { reading = reading }) self.new) }
+        ensures err { OnErr result (self.new ≡ self.old) }
+        ensures why { IfErr result (λ why. Refuses place why self.old) }
+    {
+        self.last = self.supervisors[place].happen(reading, kind, self.last)?;
+        self.reading = reading;
+        Ok(())
+    }
+
+    /// Something happens at the supervisor at this place, at the last reading of the clock.
     pub(crate) fn happen(&mut self, place: usize, kind: &Kind) -> Result<(), DriveFault>
         requires { place < length self.old.members }
         ensures ok { OnOk result (Occurs place kind.now self.old self.new) }
         ensures err { OnErr result (self.new ≡ self.old) }
         ensures why { IfErr result (λ why. Refuses place why self.old) }
     {
-        self.last = self.supervisors[place].happen(self.reading, kind, self.last)?;
-        Ok(())
+        self.happen_at(self.reading, place, kind)
     }
 
     /// The next order of the supervisor at this place is taken.
@@ -407,21 +419,31 @@ impl Driver {
         self.pass(place);
     }
 
-    /// The clock is read, in milliseconds. A reading below an earlier one counts as that one.
-    ///
-    /// # Errors
-    ///
-    /// [`DriveFault::BadReading`] above [`MAX_READING`].
-    pub fn tick(&mut self, reading: u64) -> Result<(), DriveFault>
-        ensures ok { OnOk result (self.new ≡ record self.old { reading = max self.old.reading reading }) }
-        ensures err { IfErr result (λ why. (why ≡ fault.BadReading) × (self.new ≡ self.old)) }
+    /// When that happens which is told with this reading of the clock: then, but never before the last reading.
+    fn held(&self, reading: u64) -> Result<u64, DriveFault>
+        ensures ok { IfOk result (λ time. time ≡ max self.now.reading reading) }
+        ensures err { IfErr result (λ why. why ≡ fault.BadReading) }
         ensures within { OnOk result (reading ≤ MAX_READING) }
         ensures above { OnErr result (MAX_READING < reading) }
     {
         if reading > MAX_READING {
             return Err(DriveFault::BadReading);
         }
-        self.reading = self.reading.max(reading);
+        Ok(self.reading.max(reading))
+    }
+
+    /// The clock is read, in milliseconds. A reading below an earlier one counts as that one.
+    ///
+    /// # Errors
+    ///
+    /// [`DriveFault::BadReading`] above [`MAX_READING`].
+    pub fn tick(&mut self, reading: u64) -> Result<(), DriveFault>
+        ensures ok { OnOk result (self.new ≡ at_reading reading self.old) }
+        ensures err { IfErr result (λ why. (why ≡ fault.BadReading) × (self.new ≡ self.old)) }
+        ensures within { OnOk result (reading ≤ MAX_READING) }
+        ensures above { OnErr result (MAX_READING < reading) }
+    {
+        self.reading = self.held(reading)?;
         Ok(())
     }
 
@@ -454,42 +476,48 @@ impl Driver {
         }
     }
 
-    /// A process outside tells its supervisor, at this place, that it is up, was ignored, has failed, or has ended.
+    /// A process outside tells its supervisor, at this place, that it is up, was ignored, has failed, or has ended. It happens at
+    /// this reading of the clock, in milliseconds; one below an earlier one counts as that one.
     ///
     /// # Errors
     ///
-    /// [`DriveFault::NoSupervisor`], [`DriveFault::IsNested`], [`DriveFault::OutOfMemory`], [`DriveFault::OrdersWait`],
-    /// [`DriveFault::Spent`].
+    /// [`DriveFault::BadReading`] above [`MAX_READING`]; [`DriveFault::NoSupervisor`], [`DriveFault::IsNested`],
+    /// [`DriveFault::OutOfMemory`], [`DriveFault::OrdersWait`], [`DriveFault::Spent`].
     #[inline]
-    pub fn note(&mut self, place: usize, note: &Note) -> Result<(), DriveFault>
-        ensures ok { OnOk result (Occurs place (kind.Took (item.Note note.now)) self.old self.new) }
+    pub fn note(&mut self, reading: u64, place: usize, note: &Note) -> Result<(), DriveFault>
+        ensures ok { OnOk result (Occurs place (kind.Took (item.Note note.now)) (at_reading reading self.old) self.new) }
         ensures outside { OnOk result (is_nested self.old place (process_of note.now) ≡ false) }
-        ensures nested { place < length self.old.members → is_nested self.old place (process_of note.now) ≡ true → result ≡ Err fault.IsNested }
-        ensures missing { length self.old.members ≤ place → result ≡ Err fault.NoSupervisor }
+        ensures within { OnOk result (reading ≤ MAX_READING) }
+        ensures above { MAX_READING < reading → result ≡ Err fault.BadReading }
+        ensures nested { reading ≤ MAX_READING → place < length self.old.members → is_nested self.old place (process_of note.now) ≡ true → result ≡ Err fault.IsNested }
+        ensures missing { reading ≤ MAX_READING → length self.old.members ≤ place → result ≡ Err fault.NoSupervisor }
         ensures err { OnErr result (self.new ≡ self.old) }
-        ensures why { IfErr result (λ why. RefusesNote place note.now why self.old) }
+        ensures why { IfErr result (λ why. RefusesNote reading place note.now why self.old) }
     {
         let kind = Kind::Took(Item::Note(*note));
+        let time = self.held(reading)?;
         if place >= self.supervisors.len() {
             return Err(DriveFault::NoSupervisor);
         }
         if self.is_nested(place, process_of(note)) {
             return Err(DriveFault::IsNested);
         }
-        self.happen(place, &kind)
+        self.happen_at(time, place, &kind)
     }
 
-    /// Somebody calls the supervisor at this place; the answer is the call's number. Its reply comes as an order of that
-    /// supervisor, under this number.
+    /// Somebody calls the supervisor at this place, at this reading of the clock; the answer is the call's number. Its reply
+    /// comes as an order of that supervisor, under this number.
     ///
     /// # Errors
     ///
-    /// [`DriveFault::NoSupervisor`], [`DriveFault::OutOfMemory`], [`DriveFault::OrdersWait`], [`DriveFault::Spent`].
-    pub fn call(&mut self, place: usize, call: Call) -> Result<u64, DriveFault>
-        ensures ok { IfOk result (λ number. Called number place call self.old self.new) }
+    /// As of [`Driver::note`], but for [`DriveFault::IsNested`].
+    pub fn call(&mut self, reading: u64, place: usize, call: Call) -> Result<u64, DriveFault>
+        ensures ok { IfOk result (λ number. Called number place call (at_reading reading self.old) self.new) }
+        ensures within { OnOk result (reading ≤ MAX_READING) }
         ensures err { OnErr result (self.new ≡ self.old) }
-        ensures why { IfErr result (λ why. RefusesCall place why self.old) }
+        ensures why { IfErr result (λ why. RefusesCall reading place why self.old) }
     {
+        let time = self.held(reading)?;
         if place >= self.supervisors.len() {
             return Err(DriveFault::NoSupervisor);
         }
@@ -497,18 +525,27 @@ impl Driver {
             return Err(DriveFault::Spent);
         }
         let number = self.calls + 1;
-        self.happen(place, &Kind::Took(Item::Call(number, call)))?;
+        self.happen_at(time, place, &Kind::Took(Item::Call(number, call)))?;
         self.calls = number;
         Ok(number)
     }
 
-    /// The root is wanted to shut down.
-    pub fn stop(&mut self)
-        ensures { IsAsked self.old self.new }
+    /// The root is wanted to shut down, from this reading of the clock on.
+    ///
+    /// # Errors
+    ///
+    /// [`DriveFault::BadReading`] above [`MAX_READING`].
+    pub fn stop(&mut self, reading: u64) -> Result<(), DriveFault>
+        ensures ok { OnOk result (IsAsked (at_reading reading self.old) self.new) }
+        ensures err { IfErr result (λ why. (why ≡ fault.BadReading) × (self.new ≡ self.old)) }
+        ensures within { OnOk result (reading ≤ MAX_READING) }
+        ensures above { OnErr result (MAX_READING < reading) }
     {
+        self.tick(reading)?;
         if !self.links.is_empty() {
             self.ask(0);
         }
+        Ok(())
     }
 
     /// The reading at which the clock has to be read again at the latest: the least deadline of all supervisors.

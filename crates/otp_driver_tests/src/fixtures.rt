@@ -60,28 +60,41 @@ pub(crate) fn line_of(rt: &impl Abort, text: &str) -> Line {
     }
 }
 
-fn tell_once(session: &mut Session, place: usize, line: Line) -> Result<(), DriveFault> {
+fn tell_once(
+    session: &mut Session,
+    reading: u64,
+    place: usize,
+    line: Line,
+) -> Result<(), DriveFault> {
     match line {
         Line::Empty => Ok(()),
         Line::At(reading) => session.driver.tick(reading),
-        Line::Note(note) => session.driver.note(place, &note),
-        Line::Call(call) => match session.driver.call(place, call) {
+        Line::Note(note) => session.driver.note(reading, place, &note),
+        Line::Call(call) => match session.driver.call(reading, place, call) {
             Ok(_) => Ok(()),
             Err(fault) => Err(fault),
         },
-        Line::Stop => {
-            session.driver.stop();
-            Ok(())
-        }
+        Line::Stop => session.driver.stop(reading),
     }
 }
 
-/// Tells the supervisor of this number a line, again where memory was refused.
-pub(crate) fn tell(session: &mut Session, place: usize, line: Line) -> Result<(), DriveFault> {
-    match tell_once(session, place, line) {
-        Err(DriveFault::OutOfMemory) => tell_once(session, place, line),
+/// Tells the supervisor of this number a line as of this reading of the clock, again where memory was refused.
+pub(crate) fn tell_at(
+    session: &mut Session,
+    reading: u64,
+    place: usize,
+    line: Line,
+) -> Result<(), DriveFault> {
+    match tell_once(session, reading, place, line) {
+        Err(DriveFault::OutOfMemory) => tell_once(session, reading, place, line),
         told => told,
     }
+}
+
+/// The same as of the last reading.
+pub(crate) fn tell(session: &mut Session, place: usize, line: Line) -> Result<(), DriveFault> {
+    let reading = session.driver.reading();
+    tell_at(session, reading, place, line)
 }
 
 /// The next order, asked for again where memory was refused.
@@ -173,15 +186,37 @@ fn page(rt: &impl Abort, alloc: Global) -> Vec<u8> {
     }
 }
 
-/// Plays lines, each with its orders.
-pub(crate) fn play(rt: &impl Abort, alloc: Global, session: &mut Session, steps: &[Step]) {
+/// Plays a line as of this reading of the clock, with its orders.
+fn play_step(rt: &impl Abort, alloc: Global, session: &mut Session, reading: u64, step: Step) {
     let mut told = page(rt, alloc);
+    let (place, text, orders) = step;
+    got(
+        rt,
+        text,
+        tell_at(session, reading, place, line_of(rt, text)),
+    );
+    write_orders(rt, session, &mut told);
+    same(rt, text, told.as_slice(), orders.as_bytes());
+}
+
+/// Plays lines, each with its orders, as of the last reading.
+pub(crate) fn play(rt: &impl Abort, alloc: Global, session: &mut Session, steps: &[Step]) {
     for step in steps {
-        let (place, text, orders) = *step;
-        told.clear();
-        got(rt, text, tell(session, place, line_of(rt, text)));
-        write_orders(rt, session, &mut told);
-        same(rt, text, told.as_slice(), orders.as_bytes());
+        let reading = session.driver.reading();
+        play_step(rt, alloc, session, reading, *step);
+    }
+}
+
+/// Plays lines, each as of a reading of its own.
+pub(crate) fn play_at(
+    rt: &impl Abort,
+    alloc: Global,
+    session: &mut Session,
+    steps: &[(u64, Step)],
+) {
+    for step in steps {
+        let (reading, step) = *step;
+        play_step(rt, alloc, session, reading, step);
     }
 }
 

@@ -1,6 +1,6 @@
 //! What is refused, and what stands then.
 
-use crate::fixtures::{Step, got, line_of, open, play, same, tell};
+use crate::fixtures::{Step, got, line_of, open, play, same, tell, tell_at};
 use otp_driver::{DriveFault, Session};
 use otp_spec::MAX_READING;
 use otp_text::Line;
@@ -31,6 +31,12 @@ fn refuses(rt: &impl Abort, session: &mut Session, place: usize, line: Line, fau
     same(rt, "the clock after a refusal", after, reading);
 }
 
+/// A reading that is too large is refused before it is looked at who is named.
+fn refuses_reading(rt: &impl Abort, session: &mut Session, reading: u64, line: Line) {
+    let told = tell_at(session, reading, 2, line);
+    same(rt, "a reading", told, Err(DriveFault::BadReading));
+}
+
 /// The greatest reading is one, and an earlier one counts as that. A number that no child has changes nothing.
 const LATE: [Step; 3] = [
     (0, "at 4611686018427387904", ""),
@@ -46,6 +52,9 @@ fn each_refusal(rt: &impl Abort, alloc: Global, session: &mut Session) {
     }
     for reading in [MAX_READING + 1, u64::MAX] {
         refuses(rt, session, 0, Line::At(reading), DriveFault::BadReading);
+        for text in ["up 2", "count", "stop"] {
+            refuses_reading(rt, session, reading, line_of(rt, text));
+        }
     }
     play(rt, alloc, session, &LATE);
     same(rt, "the clock", session.driver.reading(), MAX_READING);

@@ -1,6 +1,6 @@
 //! Whole runs of a nested tree.
 
-use crate::fixtures::{Step, named, open, play, plays, same};
+use crate::fixtures::{Step, named, open, play, play_at, plays, same};
 use otp_driver::{Driver, Session};
 use otp_reason::Name;
 use std::alloc::Global;
@@ -59,6 +59,39 @@ fn a_pool(rt: &impl Abort, alloc: Global, session: &mut Session) {
 fn a_pool_gives_up_and_is_started_anew(rt: HostRuntime) {
     let mut session = open(&rt, rt.alloc(), SHOP);
     a_pool(&rt, rt.alloc(), &mut session);
+    drop(session);
+}
+
+/// Nothing happens, and nobody reads the clock, for longer than the period and the time to shut down, before one of the pool crashes:
+/// the other gets its whole time. What is told with an earlier reading happens at the last one. A crash more than the period later
+/// is the first again, and the next one within it is one too many. A call and the stop have their own time too.
+const LATE: [(u64, Step); 19] = [
+    (0, (0, "", "0 start web serve #1;")),
+    (0, (0, "up 1", "1 start a work #3;")),
+    (0, (1, "up 3", "1 start b work #4;")),
+    (0, (1, "up 4", "0 ready;")),
+    (50000, (1, "exit 4 error:x", "1 ask a work #3 until 50300;")),
+    (7, (1, "exit 3 shutdown", "1 start a work #5;")),
+    (50100, (1, "up 5", "1 start b work #6;")),
+    (50100, (1, "up 6", "")),
+    (60001, (1, "exit 6 error:x", "1 ask a work #5 until 60301;")),
+    (60200, (1, "exit 5 shutdown", "1 start a work #7;")),
+    (60200, (1, "up 7", "1 start b work #8;")),
+    (60200, (1, "up 8", "")),
+    (70001, (1, "exit 8 error:x", "1 ask a work #7 until 70301;")),
+    (70200, (1, "exit 7 shutdown", "1 start a work #10;")),
+    (70200, (1, "up 10", "1 start b work #11;")),
+    (70200, (1, "up 11", "")),
+    (90000, (1, "terminate a", "1 ask a work #10 until 90300;")),
+    (90100, (1, "exit 10 shutdown", "1 reply 1;")),
+    (95000, (0, "stop", "1 ask b work #11 until 95300;")),
+];
+
+#[test]
+fn what_happens_late_has_its_own_time(rt: HostRuntime) {
+    let mut session = open(&rt, rt.alloc(), SHOP);
+    play_at(&rt, rt.alloc(), &mut session, &LATE);
+    same(&rt, "the clock", session.driver.reading(), 95000);
     drop(session);
 }
 

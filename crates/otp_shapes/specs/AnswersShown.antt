@@ -1,5 +1,5 @@
 -- What the structs of an answer say (own).
-use Rattle.std.specs.Prelude.{◌≡◌, ℕ, length, min}
+use Rattle.std.specs.Prelude.{◌≡◌, ◌^◌, ◌-◌, ℕ, length, min}
 use Rattle.otp_rules.specs.declared.call.Answered.{Answered}
 use Rattle.otp_rules.specs.declared.call.CallFault.{CallFault}
 use Rattle.otp_rules.specs.declared.call.CallFault.TheVariants as fault
@@ -32,11 +32,11 @@ ShowsRefusal (fault.BadSpec why) out = (out.spec_fault ≡ code_of why) × (out.
 ShowsRefusal (fault.Start reason) out = (out.reason ≡ reason_number reason) × ShowsReasonText reason out.text
 ShowsRefusal _ out = out.number ≡ 0
 
--- what an answer has beside its kind. A supervisor has 256 children at most
+-- what an answer has beside its kind. Lines are counted in 32 bits
 abbrev pub ShowsReply : Reply → CAnswer → Type 0
 ShowsReply (reply.OkProcess number) out = out.number ≡ number
 ShowsReply (reply.Refused why) out = (out.fault ≡ call_fault_number why) × ShowsRefusal why out
-ShowsReply (reply.Which lines) out = out.lines ≡ min (length lines) 256
+ShowsReply (reply.Which lines) out = out.lines ≡ min (length lines) (2 ^ 32 - 1)
 ShowsReply (reply.Count counts) out =
     (out.specs ≡ counts.specs) × (out.active ≡ counts.active) × (out.supervisors ≡ counts.supervisors) × (out.workers ≡ counts.workers)
 ShowsReply _ out = out.number ≡ 0

@@ -114,7 +114,7 @@ pub fn answer_out(answered: &Answered) -> CAnswer
         Reply::OkUndefined => plain(call, 3),
         Reply::Refused(fault) => refused(call, fault),
         Reply::Which(lines) => CAnswer {
-            lines: lines.as_slice().len().min(256) as u32,
+            lines: lines.as_slice().len().min(u32::MAX as usize) as u32,
             ..plain(call, 5)
         },
         Reply::Count(counts) => CAnswer {

@@ -19,14 +19,13 @@ fn measure(children: u64, count: u64) -> Result<f64, Box<dyn std::error::Error>>
     // The first turn opens the tree, and isn't measured.
     for number in 0..=count {
         if number > 0 {
-            tree.tick(number * 10)?;
-            tree.note(0, Note::Exit(last, crash))?;
+            tree.note(number * 10, 0, Note::Exit(last, crash))?;
         }
         // Each start succeeds at once.
         while let Some(order) = tree.next_order_ref()? {
             if let OrderRef::Start(process) = order {
                 last = process.number();
-                tree.note(0, Note::Up(last))?;
+                tree.note(number * 10, 0, Note::Up(last))?;
             }
         }
         if number == 0 {

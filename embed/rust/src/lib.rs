@@ -5,30 +5,65 @@
 //! deadlines, significant children and nested supervisors are OTP's. The decisions are made by a library that is proved
 //! (`docs/PROVED.md` says what that means); this crate is a safe wrapper of its C calls, and is itself not proved.
 //!
-//! ```
-//! use otp_embed::{Note, Order, Reason, Text, Tree};
+//! Each thing that is told carries the reading of the clock at which it happens, in milliseconds; so a tree counts right however
+//! long nothing happened before.
 //!
-//! let mut tree = Tree::open(
+//! ```
+//! use otp_embed::{Fault, Note, Order, Reason, Tree};
+//! use std::collections::VecDeque;
+//!
+//! struct Program {
+//!     tree: Tree,
+//!     /// What has happened and wasn't told yet: when, to which supervisor, and what.
+//!     untold: VecDeque<(u64, u32, Note)>,
+//!     done: Vec<String>,
+//! }
+//!
+//! impl Program {
+//!     /// Tells what has happened, and carries out each order before the next one is taken. So nothing is lost where a call is
+//!     /// refused: call it again.
+//!     fn go_on(&mut self, now: u64) -> Result<(), Fault> {
+//!         loop {
+//!             while let Some(order) = self.tree.next_order()? {
+//!                 self.done.push(order.to_string());
+//!                 if let Order::Start(process) = order {
+//!                     // Here the process is started.
+//!                     self.untold.push_back((now, process.supervisor, Note::Up(process.number)));
+//!                 }
+//!             }
+//!             let Some(&(reading, supervisor, note)) = self.untold.front() else { return Ok(()) };
+//!             self.tree.note(reading, supervisor, note)?;
+//!             self.untold.pop_front();
+//!         }
+//!     }
+//! }
+//!
+//! let tree = Tree::open(
 //!     r#"
 //!     intensity = 1
 //!     period = 5
 //!     [[child]]
 //!     id = "db"
 //!     start = "postgres"
+//!     shutdown = 2000
 //!     "#,
 //! )?;
+//! let mut program = Program { tree, untold: VecDeque::new(), done: Vec::new() };
+//! program.go_on(0)?;
 //!
-//! // The root starts its children.
-//! let Some(Order::Start(db)) = tree.next_order()? else { panic!("no start") };
-//! assert_eq!((db.start.as_str(), db.number), ("postgres", 1));
-//! tree.note(db.supervisor, Note::Up(db.number))?;
-//! assert_eq!(tree.orders().collect::<Result<Vec<_>, _>>()?, [Order::Ready]);
+//! // It crashes after 9 seconds, and again 11 seconds later: more than the period lies between.
+//! for (number, now) in [(1, 9_000), (2, 20_000)] {
+//!     program.untold.push_back((now, 0, Note::Exit(number, Reason::error("signal_11"))));
+//!     program.go_on(now)?;
+//! }
 //!
-//! // It crashes after a second, and is started again as a new process.
-//! tree.tick(1000)?;
-//! tree.note(0, Note::Exit(1, Reason::Error(Text::new("segfault")?)))?;
-//! let orders: Vec<String> = tree.orders().map(|order| Ok(order?.to_string())).collect::<Result<_, otp_embed::Fault>>()?;
-//! assert_eq!(orders, ["start db #2"]);
+//! // After a quiet minute the tree is to stop. The process has two seconds, and doesn't heed it.
+//! program.tree.stop(80_000)?;
+//! program.go_on(80_000)?;
+//! assert_eq!(program.tree.next_deadline(), Some(82_000));
+//! program.tree.tick(82_000)?;
+//! program.go_on(82_000)?;
+//! assert_eq!(program.done, ["start db #1", "ready", "start db #2", "start db #3", "ask db #3", "kill db #3"]);
 //! # Ok::<(), Box<dyn std::error::Error>>(())
 //! ```
 //!
@@ -51,4 +86,4 @@ pub use look::{Child, ChildState, EndCause, Limits, Phase, Supervisor};
 pub use name::{BadWord, Name, Reason, Text};
 pub use order::{Cause, End, EndRef, Note, Order, OrderRef, Process, ProcessRef};
 pub use spec::{AutoShutdown, ChildSpec, Kind, Modules, Restart, Shutdown, Strategy};
-pub use tree::{Orders, ReplyRef, Tree};
+pub use tree::{ReplyRef, Tree};

@@ -171,6 +171,7 @@ unsafe extern "C" {
     fn otp_tick(tree: *mut RawTree, reading: u64) -> u32;
     fn otp_note(
         tree: *mut RawTree,
+        reading: u64,
         supervisor: u32,
         kind: u32,
         number: u64,
@@ -178,10 +179,17 @@ unsafe extern "C" {
         text: *const u8,
         length: usize,
     ) -> u32;
-    fn otp_stop(tree: *mut RawTree) -> u32;
-    fn otp_start_child(tree: *mut RawTree, supervisor: u32, spec: *const RawSpec, call: *mut u64) -> u32;
-    fn otp_call(tree: *mut RawTree, supervisor: u32, kind: u32, id: *const RawName, number: u64, call: *mut u64)
-    -> u32;
+    fn otp_stop(tree: *mut RawTree, reading: u64) -> u32;
+    fn otp_start_child(tree: *mut RawTree, reading: u64, supervisor: u32, spec: *const RawSpec, call: *mut u64) -> u32;
+    fn otp_call(
+        tree: *mut RawTree,
+        reading: u64,
+        supervisor: u32,
+        kind: u32,
+        id: *const RawName,
+        number: u64,
+        call: *mut u64,
+    ) -> u32;
     fn otp_next(tree: *mut RawTree, order: *mut RawOrder) -> u32;
     fn otp_answer_of(tree: *mut RawTree, answer: *mut RawAnswer) -> u32;
     fn otp_answer_line(tree: *mut RawTree, index: u32, line: *mut RawLine) -> u32;
@@ -222,24 +230,24 @@ impl Handle {
     }
 
     #[inline]
-    pub fn note(&mut self, supervisor: u32, kind: u32, number: u64, reason: u32, text: &[u8]) -> u32 {
+    pub fn note(&mut self, reading: u64, supervisor: u32, kind: u32, number: u64, reason: u32, text: &[u8]) -> u32 {
         // SAFETY: see `Handle`.
-        unsafe { otp_note(&raw mut self.0, supervisor, kind, number, reason, text.as_ptr(), text.len()) }
+        unsafe { otp_note(&raw mut self.0, reading, supervisor, kind, number, reason, text.as_ptr(), text.len()) }
     }
 
-    pub fn stop(&mut self) -> u32 {
+    pub fn stop(&mut self, reading: u64) -> u32 {
         // SAFETY: see `Handle`.
-        unsafe { otp_stop(&raw mut self.0) }
+        unsafe { otp_stop(&raw mut self.0, reading) }
     }
 
-    pub fn start_child(&mut self, supervisor: u32, spec: &RawSpec, call: &mut u64) -> u32 {
+    pub fn start_child(&mut self, reading: u64, supervisor: u32, spec: &RawSpec, call: &mut u64) -> u32 {
         // SAFETY: see `Handle`.
-        unsafe { otp_start_child(&raw mut self.0, supervisor, spec, call) }
+        unsafe { otp_start_child(&raw mut self.0, reading, supervisor, spec, call) }
     }
 
-    pub fn call(&mut self, supervisor: u32, kind: u32, id: &RawName, number: u64, call: &mut u64) -> u32 {
+    pub fn call(&mut self, reading: u64, supervisor: u32, kind: u32, id: &RawName, number: u64, call: &mut u64) -> u32 {
         // SAFETY: see `Handle`.
-        unsafe { otp_call(&raw mut self.0, supervisor, kind, id, number, call) }
+        unsafe { otp_call(&raw mut self.0, reading, supervisor, kind, id, number, call) }
     }
 
     #[inline]

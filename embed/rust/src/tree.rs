@@ -12,9 +12,13 @@ use crate::sys::{
 
 /// A whole tree of supervisors, whose processes are the caller's.
 ///
-/// The tree decides; it reads no clock and starts no process. Tell it what happened ([`tick`](Tree::tick),
-/// [`note`](Tree::note), [`stop`](Tree::stop) and the calls), and carry out what it orders ([`orders`](Tree::orders)).
-/// It is `Send`, and used by one caller at a time.
+/// The tree decides; it reads no clock and starts no process. Tell it what happened ([`note`](Tree::note),
+/// [`stop`](Tree::stop) and the calls) and what time it is ([`tick`](Tree::tick)), and carry out what it orders
+/// ([`next_order`](Tree::next_order)). It is `Send`, and used by one caller at a time.
+///
+/// A `reading` of the clock is in milliseconds since any beginning. What is told carries the one at which it happens:
+/// restarts and deadlines are counted from it, however long nothing was told before. So take it after the wait, not before.
+/// The tree's clock never goes back: a reading below an earlier one counts as that one.
 #[derive(Debug)]
 pub struct Tree {
     handle: Handle,
@@ -38,7 +42,7 @@ impl Tree {
         }
     }
 
-    /// The clock is read: so many milliseconds since any beginning. A reading below an earlier one counts as that one.
+    /// The clock is read: what is due by then comes with the next orders.
     ///
     /// # Errors
     /// [`Fault::BadReading`] for one above 2^62.
@@ -47,25 +51,28 @@ impl Tree {
         Fault::check(self.handle.tick(reading))
     }
 
-    /// A process tells the supervisor that ordered its start how it stands. A number that no child has changes nothing.
+    /// At this reading a process tells the supervisor that ordered its start how it stands. A number that no child has changes
+    /// nothing.
     ///
     /// # Errors
-    /// [`Fault::Memory`], [`Fault::Full`], [`Fault::Spent`], [`Fault::NoSupervisor`], [`Fault::Nested`].
+    /// [`Fault::BadReading`], [`Fault::Memory`], [`Fault::Full`], [`Fault::Spent`], [`Fault::NoSupervisor`],
+    /// [`Fault::Nested`].
     #[inline]
-    pub fn note(&mut self, supervisor: u32, note: Note) -> Result<(), Fault> {
+    pub fn note(&mut self, reading: u64, supervisor: u32, note: Note) -> Result<(), Fault> {
         let (kind, number) = (note.kind_number(), note.number());
         let (reason, text): (u32, &[u8]) = match &note {
             Note::Up(_) | Note::Ignored(_) => (0, b""),
             Note::Failed(_, reason) | Note::Exit(_, reason) => reason.as_raw(),
         };
-        Fault::check(self.handle.note(supervisor, kind, number, reason, text))
+        Fault::check(self.handle.note(reading, supervisor, kind, number, reason, text))
     }
 
-    /// The root is wanted to shut down, and with it the tree.
-    pub fn stop(&mut self) {
-        // An open handle answers nothing else.
-        let status = self.handle.stop();
-        debug_assert_eq!(status, sys::OK);
+    /// The root is wanted to shut down from this reading on, and with it the tree.
+    ///
+    /// # Errors
+    /// [`Fault::BadReading`].
+    pub fn stop(&mut self, reading: u64) -> Result<(), Fault> {
+        Fault::check(self.handle.stop(reading))
     }
 
     /// `start_child/2` with a specification. The answer is the number of the process, or nothing where its start was ignored.
@@ -73,10 +80,10 @@ impl Tree {
     /// # Errors
     /// As those of [`note`](Tree::note), but for `Nested`; and [`Fault::TooManyModules`]. A specification that the rules refuse
     /// is answered so.
-    pub fn start_child(&mut self, supervisor: u32, spec: &ChildSpec) -> Result<Call<Option<u64>>, Fault> {
+    pub fn start_child(&mut self, reading: u64, supervisor: u32, spec: &ChildSpec) -> Result<Call<Option<u64>>, Fault> {
         let raw = spec.to_raw().ok_or(Fault::TooManyModules)?;
         let mut number = 0;
-        Fault::check(self.handle.start_child(supervisor, &raw, &mut number))?;
+        Fault::check(self.handle.start_child(reading, supervisor, &raw, &mut number))?;
         Ok(Call::new(number))
     }
 
@@ -84,83 +91,85 @@ impl Tree {
     ///
     /// # Errors
     /// As those of [`note`](Tree::note), but for `Nested`.
-    pub fn start_dynamic(&mut self, supervisor: u32) -> Result<Call<Option<u64>>, Fault> {
-        self.call(supervisor, 1, None, 0)
+    pub fn start_dynamic(&mut self, reading: u64, supervisor: u32) -> Result<Call<Option<u64>>, Fault> {
+        self.call(reading, supervisor, 1, None, 0)
     }
 
     /// `restart_child/2`: a child without a process is started again.
     ///
     /// # Errors
     /// As those of [`note`](Tree::note), but for `Nested`.
-    pub fn restart_child(&mut self, supervisor: u32, id: Name) -> Result<Call<Option<u64>>, Fault> {
-        self.call(supervisor, 2, Some(id), 0)
+    pub fn restart_child(&mut self, reading: u64, supervisor: u32, id: Name) -> Result<Call<Option<u64>>, Fault> {
+        self.call(reading, supervisor, 2, Some(id), 0)
     }
 
     /// `delete_child/2`: a child without a process is forgotten.
     ///
     /// # Errors
     /// As those of [`note`](Tree::note), but for `Nested`.
-    pub fn delete_child(&mut self, supervisor: u32, id: Name) -> Result<Call<()>, Fault> {
-        self.call(supervisor, 3, Some(id), 0)
+    pub fn delete_child(&mut self, reading: u64, supervisor: u32, id: Name) -> Result<Call<()>, Fault> {
+        self.call(reading, supervisor, 3, Some(id), 0)
     }
 
     /// `terminate_child/2` by id: the child is shut down, and stays without a process until it is started by a call.
     ///
     /// # Errors
     /// As those of [`note`](Tree::note), but for `Nested`.
-    pub fn terminate_child(&mut self, supervisor: u32, id: Name) -> Result<Call<()>, Fault> {
-        self.call(supervisor, 4, Some(id), 0)
+    pub fn terminate_child(&mut self, reading: u64, supervisor: u32, id: Name) -> Result<Call<()>, Fault> {
+        self.call(reading, supervisor, 4, Some(id), 0)
     }
 
     /// `terminate_child/2` by process, under `simple_one_for_one`.
     ///
     /// # Errors
     /// As those of [`note`](Tree::note), but for `Nested`.
-    pub fn terminate_process(&mut self, supervisor: u32, number: u64) -> Result<Call<()>, Fault> {
-        self.call(supervisor, 5, None, number)
+    pub fn terminate_process(&mut self, reading: u64, supervisor: u32, number: u64) -> Result<Call<()>, Fault> {
+        self.call(reading, supervisor, 5, None, number)
     }
 
     /// `which_children/1`.
     ///
     /// # Errors
     /// As those of [`note`](Tree::note), but for `Nested`.
-    pub fn which_children(&mut self, supervisor: u32) -> Result<Call<Vec<ChildLine>>, Fault> {
-        self.call(supervisor, 6, None, 0)
+    pub fn which_children(&mut self, reading: u64, supervisor: u32) -> Result<Call<Vec<ChildLine>>, Fault> {
+        self.call(reading, supervisor, 6, None, 0)
     }
 
     /// `count_children/1`.
     ///
     /// # Errors
     /// As those of [`note`](Tree::note), but for `Nested`.
-    pub fn count_children(&mut self, supervisor: u32) -> Result<Call<Counts>, Fault> {
-        self.call(supervisor, 7, None, 0)
+    pub fn count_children(&mut self, reading: u64, supervisor: u32) -> Result<Call<Counts>, Fault> {
+        self.call(reading, supervisor, 7, None, 0)
     }
 
     /// `get_childspec/2`.
     ///
     /// # Errors
     /// As those of [`note`](Tree::note), but for `Nested`.
-    pub fn get_childspec(&mut self, supervisor: u32, id: Name) -> Result<Call<ChildSpec>, Fault> {
-        self.call(supervisor, 8, Some(id), 0)
+    pub fn get_childspec(&mut self, reading: u64, supervisor: u32, id: Name) -> Result<Call<ChildSpec>, Fault> {
+        self.call(reading, supervisor, 8, Some(id), 0)
     }
 
-    fn call<T>(&mut self, supervisor: u32, kind: u32, id: Option<Name>, number: u64) -> Result<Call<T>, Fault> {
+    fn call<T>(
+        &mut self,
+        reading: u64,
+        supervisor: u32,
+        kind: u32,
+        id: Option<Name>,
+        number: u64,
+    ) -> Result<Call<T>, Fault> {
         let id = id.map_or_else(RawName::zeroed, Name::to_raw);
         let mut call = 0;
-        Fault::check(self.handle.call(supervisor, kind, &id, number, &mut call))?;
+        Fault::check(self.handle.call(reading, supervisor, kind, &id, number, &mut call))?;
         Ok(Call::new(call))
     }
 
-    /// The orders that were not taken yet. Each comes once, and counts as carried out from then on.
+    /// The next order, if there is one. Each comes once, and counts as carried out from then on: so carry it out before the
+    /// next one is taken.
     ///
     /// What follows by itself from what was told (a deadline that has come, a retry, what waited, the start and the end of
     /// a nested supervisor) happens here. After an `Err` the same order comes again with the next call.
-    #[inline]
-    pub fn orders(&mut self) -> Orders<'_> {
-        Orders { tree: self }
-    }
-
-    /// The next order, if there is one.
     ///
     /// # Errors
     /// [`Fault::Memory`], [`Fault::Full`], [`Fault::Spent`].
@@ -314,23 +323,5 @@ impl ReplyRef<'_> {
     pub fn into_reply(self) -> Result<Reply, Fault> {
         let (supervisor, call) = (self.supervisor(), self.call());
         Ok(Reply { supervisor, call, answer: self.tree.answer().ok_or(STRANGE)? })
-    }
-}
-
-/// The orders of a tree that were not taken yet.
-///
-/// An `Err` says that memory was refused (or the little else that [`Tree::next_order`] lists): the iterator may be asked
-/// again, and nothing is lost.
-#[derive(Debug)]
-pub struct Orders<'a> {
-    tree: &'a mut Tree,
-}
-
-impl Iterator for Orders<'_> {
-    type Item = Result<Order, Fault>;
-
-    #[inline]
-    fn next(&mut self) -> Option<Self::Item> {
-        self.tree.next_order().transpose()
     }
 }

@@ -90,6 +90,7 @@ struct Life {
     told: Vec<String>,
     /// The numbers of the processes by their ids, which are all different.
     numbers: BTreeMap<String, (u32, u64)>,
+    now: u64,
     /// No process listens to being asked.
     is_deaf: bool,
 }
@@ -98,7 +99,7 @@ impl Life {
     fn begin() -> Life {
         loop {
             match Tree::open(TREE) {
-                Ok(tree) => return Life { tree, told: Vec::new(), numbers: BTreeMap::new(), is_deaf: false },
+                Ok(tree) => return Life { tree, told: Vec::new(), numbers: BTreeMap::new(), now: 0, is_deaf: false },
                 Err(OpenError::Memory) => {}
                 Err(error) => panic!("{error}"),
             }
@@ -117,13 +118,13 @@ impl Life {
             };
             let id = process.id.map_or(String::new(), |id| id.to_string());
             self.numbers.insert(id, (process.supervisor, process.number));
-            again(|| self.tree.note(process.supervisor, note));
+            again(|| self.tree.note(self.now, process.supervisor, note));
         }
     }
 
     fn crash(&mut self, id: &str) {
         let (supervisor, number) = self.numbers[id];
-        again(|| self.tree.note(supervisor, Note::Exit(number, Reason::error("crash"))));
+        again(|| self.tree.note(self.now, supervisor, Note::Exit(number, Reason::error("crash"))));
         self.serve();
     }
 }
@@ -136,19 +137,20 @@ fn life() -> Vec<String> {
         life.crash(id);
     }
     let b = Name::new("b").unwrap();
-    again(|| life.tree.which_children(0));
-    again(|| life.tree.get_childspec(1, b));
+    again(|| life.tree.which_children(0, 0));
+    again(|| life.tree.get_childspec(0, 1, b));
     life.serve();
     life.is_deaf = true;
-    again(|| life.tree.terminate_child(1, b));
+    again(|| life.tree.terminate_child(0, 1, b));
     life.serve();
+    life.now = 1_000;
     again(|| life.tree.tick(1_000));
     life.serve();
     life.is_deaf = false;
-    again(|| life.tree.restart_child(1, b));
-    again(|| life.tree.count_children(1));
+    again(|| life.tree.restart_child(1_000, 1, b));
+    again(|| life.tree.count_children(1_000, 1));
     life.serve();
-    life.tree.stop();
+    again(|| life.tree.stop(1_000));
     life.serve();
     life.told
 }

@@ -76,7 +76,7 @@ mod tests {
         daemon.tree.calls - before
     }
 
-    /// The clock, the end, the order to start, that it is the only one, that it is up, that this orders nothing, one look at the
+    /// The end with its time, the order to start, that it is the only one, that it is up, that this orders nothing, one look at the
     /// supervisor, and the next deadline. A machine that is so slow that the clock is read anew adds calls: of ten tries one has none.
     #[test]
     fn one_exit_takes_the_calls_that_it_needs_however_many_supervisors_there_are() {
@@ -86,7 +86,7 @@ mod tests {
             daemon.time_left();
             assert_eq!(daemon.live.len(), pools + 1);
             let calls: Vec<u64> = (0..10).map(|_| calls_for_one_exit(&mut daemon, "p0/a")).collect();
-            assert_eq!(calls.iter().min(), Some(&8), "{calls:?}");
+            assert_eq!(calls.iter().min(), Some(&7), "{calls:?}");
             // Nothing to tell, and nothing due: nothing is asked.
             let before = daemon.tree.calls;
             daemon.turn(&[], &[]);

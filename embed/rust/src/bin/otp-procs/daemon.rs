@@ -296,11 +296,11 @@ impl Daemon {
                 return;
             }
             let Some(untold) = self.untold.pop_front() else { break };
-            self.tell_time();
             self.touched.insert(untold.told.supervisor());
             self.due = Due::default();
-            match untold.told.tell(&mut self.tree) {
+            match untold.told.tell(&mut self.tree, self.reading) {
                 Ok(call) => {
+                    self.told = self.reading;
                     self.log.tell(self.reading, &untold.record);
                     if let (Some(call), Some(waiter)) = (call, untold.waiter) {
                         self.waiters.push(Waiter { call, ..waiter });

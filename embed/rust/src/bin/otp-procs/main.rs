@@ -113,7 +113,7 @@ fn words_run(file: &Path) -> Result<BTreeSet<String>, Box<dyn Error>> {
     take_starts(&mut tree, &mut words)?;
     for number in 0..tree.supervisors() {
         if tree.supervisor(number)?.strategy == Strategy::SimpleOneForOne {
-            tree.start_dynamic(number)?;
+            tree.start_dynamic(0, number)?;
         }
     }
     take_starts(&mut tree, &mut words)?;
@@ -123,7 +123,7 @@ fn words_run(file: &Path) -> Result<BTreeSet<String>, Box<dyn Error>> {
 fn take_starts(tree: &mut Tree, words: &mut BTreeSet<String>) -> Result<(), Fault> {
     while let Some(order) = tree.next_order()? {
         let Order::Start(process) = order else { continue };
-        tree.note(process.supervisor, Note::Up(process.number))?;
+        tree.note(0, process.supervisor, Note::Up(process.number))?;
         words.insert(process.start.to_string());
     }
     Ok(())

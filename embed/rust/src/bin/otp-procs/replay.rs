@@ -137,7 +137,7 @@ pub fn replay(tree: &mut Tree, log: &str) -> Result<Played, Differs> {
                 return Err(differs(format!("the tree orders {order} before this")));
             }
             let told = told_of(&fields, event).ok_or_else(|| differs(format!("no event {event}")))?;
-            told.tell(tree).map_err(|fault| differs(fault.to_string()))?;
+            told.tell(tree, reading).map_err(|fault| differs(fault.to_string()))?;
             played.events += 1;
         } else if let Some(wanted) = fields.get("order") {
             let order = next(tree).map_err(differs)?;

@@ -46,15 +46,15 @@ impl CallKind {
         })
     }
 
-    /// Makes the call, and gives its number.
-    pub fn make(self, tree: &mut Tree, supervisor: u32) -> Result<u64, Fault> {
+    /// Makes the call at this reading of the clock, and gives its number.
+    pub fn make(self, tree: &mut Tree, reading: u64, supervisor: u32) -> Result<u64, Fault> {
         Ok(match self {
-            CallKind::Restart(id) => tree.restart_child(supervisor, id)?.number(),
-            CallKind::StartDynamic => tree.start_dynamic(supervisor)?.number(),
-            CallKind::Terminate(id) => tree.terminate_child(supervisor, id)?.number(),
-            CallKind::TerminateProcess(number) => tree.terminate_process(supervisor, number)?.number(),
-            CallKind::Which => tree.which_children(supervisor)?.number(),
-            CallKind::Count => tree.count_children(supervisor)?.number(),
+            CallKind::Restart(id) => tree.restart_child(reading, supervisor, id)?.number(),
+            CallKind::StartDynamic => tree.start_dynamic(reading, supervisor)?.number(),
+            CallKind::Terminate(id) => tree.terminate_child(reading, supervisor, id)?.number(),
+            CallKind::TerminateProcess(number) => tree.terminate_process(reading, supervisor, number)?.number(),
+            CallKind::Which => tree.which_children(reading, supervisor)?.number(),
+            CallKind::Count => tree.count_children(reading, supervisor)?.number(),
         })
     }
 }
@@ -79,15 +79,12 @@ impl Told {
         }
     }
 
-    /// Tells it; the answer is the number of a call.
-    pub fn tell(&self, tree: &mut Tree) -> Result<Option<u64>, Fault> {
+    /// Tells it as of this reading of the clock; the answer is the number of a call.
+    pub fn tell(&self, tree: &mut Tree, reading: u64) -> Result<Option<u64>, Fault> {
         match *self {
-            Told::Note(supervisor, note) => tree.note(supervisor, note).map(|()| None),
-            Told::Stop => {
-                tree.stop();
-                Ok(None)
-            }
-            Told::Call(supervisor, kind) => kind.make(tree, supervisor).map(Some),
+            Told::Note(supervisor, note) => tree.note(reading, supervisor, note).map(|()| None),
+            Told::Stop => tree.stop(reading).map(|()| None),
+            Told::Call(supervisor, kind) => kind.make(tree, reading, supervisor).map(Some),
         }
     }
 
