@@ -85,6 +85,10 @@ impl<N: TreeNaming, J: Drop, S: Drop> Hand<N, J, S> {
         if self.runner.unsent.is_some() || self.runner.turning.is_some() {
             return true;
         }
+        // After a search that gave nothing its own deque is empty. Here is one that was given back, since memory was refused to it.
+        if self.runner.around.stock() > 0 {
+            return true;
+        }
         let due = self.runner.resting.next_due();
         self.runner.around.is_worth_a_search(due, reading)
     }

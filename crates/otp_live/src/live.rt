@@ -28,7 +28,7 @@ use std::thread;
 use std::thread::Threads;
 use std::time::{Clock, Duration};
 
-/// So many milliseconds a hand sleeps that was refused memory before it tries again.
+/// So many milliseconds a hand sleeps that was refused memory, for a letter or for a supervisor's turn, before it tries again.
 const PAUSE: u64 = 1;
 
 /// Opens a tree of 1 to 64 supervisors, the root first, and runs it with 1 to 8 hands, each in a thread of its own, until its root
@@ -489,7 +489,7 @@ where
     if system.look_at_all(hand, reading) {
         drop(announced);
         if !system.turn_heard(rt, hand, reading, seat) {
-            // Memory for a letter is refused.
+            // Memory is refused, for a letter or to a supervisor.
             crew.bells()
                 .announce(seat.hand)
                 .sleep(rt, Some(Duration::from_millis(PAUSE)));

@@ -113,6 +113,17 @@ fn a_tree_ends_by_itself(rt: HostRuntime) {
     }
 }
 
+// Under `.ci/refused-growths --pauses` a hundred allocations in a row are refused: the one hand pauses after every few of them, and all
+// comes to the same end.
+#[test]
+fn a_hand_that_is_refused_memory_pauses(rt: HostRuntime) {
+    let shared = Shared::new(&rt, rt.alloc());
+    let below = [Kind::Crashes(u64::MAX)];
+    let seen = lives(&rt, rt.alloc(), &[], &below, &shared, 3, 1);
+    drop(shared);
+    all_ended(&rt, seen);
+}
+
 // Crashes and restarts in one supervisor until its jobs were started 50 times; then a job of the other stops the tree.
 #[test]
 fn a_tree_restarts_until_it_is_stopped(rt: HostRuntime) {

@@ -1,10 +1,26 @@
--- How the letter goes that a hand still had to send. (own)
-use Rattle.std.specs.Prelude.{◌≡◌, ℕ, ◌<◌, ◌≤◌, ◌++◌, ◌∷◌, [], Bool, true, false, Option, Some, None, length, slice_get, slice_set}
+-- How the letter goes that a hand still had to send, and whether a turn of a supervisor was served. (own)
+use Rattle.std.specs.Prelude.{◌≡◌, ℕ, ◌<◌, ◌≤◌, ◌++◌, ◌∷◌, [], Bool, true, false, Option, Some, None, Result, Ok, Err, length, slice_get, slice_set}
 use Rattle.otp_inbox.specs.Tokens.{SenderState}
 use Rattle.otp_bodies.specs.declared.letter.Message.{Message}
 use Rattle.otp_bodies.specs.Messages.{message}
 use Rattle.otp_hand.specs.declared.runner.Unsent.{Unsent}
 use Rattle.otp_hand.specs.Hands.{HandView}
+use Rattle.otp_office.specs.declared.turns.TurnAnswer.{TurnAnswer}
+use Rattle.otp_office.specs.declared.turns.TurnAnswer.TheVariants as answer
+use Rattle.otp_office.specs.declared.turns.TurnFault.{TurnFault}
+
+-- a turn with this answer was served: memory was refused neither to it nor to an earlier one, whose orders are still to be sent
+abbrev pub is_served : Result TurnAnswer TurnFault → Bool
+is_served (Ok answer.Pending) = false
+is_served (Ok answer.Opened) = true
+is_served (Ok answer.Ticked) = true
+is_served (Ok answer.Stopped) = true
+is_served (Ok answer.Resumed) = true
+is_served (Ok answer.Took) = true
+is_served (Ok answer.Quiet) = true
+is_served (Ok answer.Ended) = true
+is_served (Ok answer.Full) = true
+is_served (Err _) = false
 
 module _ {J S : Type 0} where
   -- it was sent, with the end that it tells, as the last that the hand sent to that supervisor of so many, or to whoever opened the

@@ -1,7 +1,7 @@
 //! How a hand serves a tree: a turn at a time.
 ghost use Rattle.std.specs.Prelude.{◌≤◌, ◌≡◌, IsTrue, None, Some};
 ghost use Rattle.otp_spec.specs.declared.limits.TheConstants.{MAX_READING};
-ghost use Rattle.otp_system.specs.Servings.{SentOrKept};
+ghost use Rattle.otp_system.specs.Servings.{SentOrKept, is_served};
 ghost use Rattle.otp_hand.specs.Standings.{standing_of};
 
 use crate::clock::Millis;
@@ -15,7 +15,7 @@ use otp_job::{Body, Job, Ticket};
 use otp_reason::Note;
 use otp_run::RunNaming;
 use otp_signals::Signal;
-use otp_sup::{Letter, SupNaming, TurnAnswer};
+use otp_sup::{Letter, SupNaming, TurnAnswer, TurnFault};
 use std::sync::Wait;
 
 impl<N: SupNaming, J: Job, S: Subsystem> System<N, J, S> {
@@ -44,7 +44,8 @@ impl<N: SupNaming, J: Job, S: Subsystem> System<N, J, S> {
         }
     }
 
-    /// One turn of a hand, at this reading of the clock in milliseconds. False where it found nothing to do.
+    /// One turn of a hand, at this reading of the clock in milliseconds. False where it found nothing to do, or memory was refused: for
+    /// a letter, or to the supervisor whose turn it was, which has it again.
     pub fn turn<R: Wait>(&self, rt: &R, hand: &mut Hand<N, J, S>, reading: u64) -> bool
     where
         N: RunNaming,
@@ -72,24 +73,54 @@ impl<N: SupNaming, J: Job, S: Subsystem> System<N, J, S> {
         if !self.send_unsent(rt, hand, listener) || !self.find(hand, reading) {
             return false;
         }
+        let served = self.give_turn(rt, hand, reading, listener);
+        if self.send_unsent(rt, hand, listener) {
+            hand.runner.hand_back();
+        }
+        served
+    }
+
+    /// The process that the hand has out has its turn, at this reading. False where it is a supervisor to which memory was refused.
+    fn give_turn<R: Wait, L: Listener>(
+        &self,
+        rt: &R,
+        hand: &mut Hand<N, J, S>,
+        reading: u64,
+        listener: &L,
+    ) -> bool
+    where
+        N: RunNaming,
+        requires reading { reading ≤ MAX_READING }
+        requires unsent { hand.old.unsent ≡ None }
+        ensures passes { hand.new.passes ≡ hand.old.passes }
+        ensures standing { standing_of hand.new ≡ standing_of hand.old }
+    {
         let parent = hand.runner.parent();
         match hand.runner.nested() {
             Some((table, number)) => {
                 let told = hand.runner.look(&self.shared.words);
-                self.supervise(rt, hand, table, number, reading, told, parent, listener);
+                self.supervise(rt, hand, table, number, reading, told, parent, listener)
             }
             None => {
-                let before = hand.runner.waiting.len();
-                hand.runner.work_as_told(&self.shared.words, reading);
-                if before < hand.runner.waiting.len() {
-                    listener.waits(parent);
-                }
+                self.work(hand, reading, parent, listener);
+                true
             }
         }
-        if self.send_unsent(rt, hand, listener) {
-            hand.runner.hand_back();
+    }
+
+    /// The worker or the bridge that a hand has out has its turn.
+    fn work<L: Listener>(&self, hand: &mut Hand<N, J, S>, reading: u64, parent: usize, listener: &L)
+    where
+        N: RunNaming,
+        requires { hand.old.unsent ≡ None }
+        ensures passes { hand.new.passes ≡ hand.old.passes }
+        ensures standing { standing_of hand.new ≡ standing_of hand.old }
+    {
+        let before = hand.runner.waiting.len();
+        hand.runner.work_as_told(&self.shared.words, reading);
+        if before < hand.runner.waiting.len() {
+            listener.waits(parent);
         }
-        true
     }
 
     /// Looks for something to do, for letters, signals and deadlines of **all** that wait in this hand, and in the run queue as a
@@ -109,7 +140,8 @@ impl<N: SupNaming, J: Job, S: Subsystem> System<N, J, S> {
     }
 
     /// A turn of this supervisor, whose process a hand has out. Where it finds nothing to do, the process waits from then on, until
-    /// the least deadline of its children at most.
+    /// the least deadline of its children at most. False where memory was refused to it in this turn, or before for an order that was still
+    /// to be sent: whoever serves makes a pause then.
     fn supervise<R: Wait, L: Listener>(
         &self,
         rt: &R,
@@ -120,7 +152,7 @@ impl<N: SupNaming, J: Job, S: Subsystem> System<N, J, S> {
         told: Signal,
         parent: usize,
         listener: &L,
-    )
+    ) -> bool
     where
         N: RunNaming,
         requires { reading ≤ MAX_READING }
@@ -128,12 +160,12 @@ impl<N: SupNaming, J: Job, S: Subsystem> System<N, J, S> {
         ensures standing { standing_of hand.new ≡ standing_of hand.old }
     {
         let Some(sup) = self.sup(table) else {
-            return;
+            return false;
         };
         // A hand of this tree has a sender to each supervisor; without one it can't serve it.
         if sup.inbox().number() >= hand.senders.len() {
             listener.served(table);
-            return;
+            return false;
         }
         let words = &self.shared.words;
         let answer = hand
@@ -143,14 +175,17 @@ impl<N: SupNaming, J: Job, S: Subsystem> System<N, J, S> {
             let due = sup.next_deadline(rt);
             hand.runner.rest(table, told, due);
             listener.rests(table, parent);
-            return;
+            // Where memory for its wait is refused it is still out.
+            return hand.runner.turning.is_none();
         }
+        let served = is_served(&answer);
         listener.served(table);
         // What is posted while nobody waits stays noted: those that wait later are then looked at in vain once.
         if hand.runner.waiting.len() > 0 {
             let posted = hand.runner.around.take_posted();
             hand.runner.waiting.notice_posted(posted);
         }
+        served
     }
 
     /// Sends the letter that a hand still has to send. False where it was refused again.
@@ -196,6 +231,13 @@ impl<N: SupNaming, J: Job, S: Subsystem> System<N, J, S> {
             }
         }
     }
+}
+
+/// Whether a turn with this answer was served: nothing was refused to it, nor to an earlier one whose orders were left over.
+fn is_served(answer: &Result<TurnAnswer, TurnFault>) -> bool
+    ensures { result ≡ is_served answer.now }
+{
+    !matches!(answer, Ok(TurnAnswer::Pending) | Err(_))
 }
 
 /// Keeps a letter that was refused.
