@@ -272,7 +272,8 @@ impl<B: Drop> Bodies<B> {
         self.take_out(at, Place::Away(slot))
     }
 
-    /// Takes back a body that didn't leave after all, to this place in the list.
+    /// Takes in, at this place in the list, the body of the child in this slot: it came home with the note of its process's end, or the
+    /// port didn't take it.
     pub fn come_back(&mut self, at: usize, slot: usize, body: B)
         requires { at < length self.old.kept }
         ensures { self.new.kept ≡ put_home at slot self.old.kept }
