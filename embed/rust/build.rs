@@ -16,6 +16,15 @@ fn warn(text: &str) {
     println!("cargo:warning={text}");
 }
 
+/// A sum of the library's bytes, by which a log says which one it was (FNV-1a).
+fn sum_of(library: &Path) -> String {
+    let bytes = std::fs::read(library).unwrap_or_default();
+    let sum = bytes
+        .iter()
+        .fold(0xcbf2_9ce4_8422_2325_u64, |sum, &byte| (sum ^ u64::from(byte)).wrapping_mul(0x100_0000_01b3));
+    format!("{sum:016x}")
+}
+
 fn main() {
     let own = std::env::var("CARGO_MANIFEST_DIR").unwrap_or_default();
     let proved = Path::new(&own).join("../out");
@@ -45,6 +54,7 @@ fn main() {
         // A proved one may come.
         println!("cargo:rerun-if-changed={}", proved.display());
     }
+    println!("cargo:rustc-env=OTP_LIBRARY_SUM={}", sum_of(&file(&folder, LIBRARIES[0])));
     println!("cargo:rustc-link-search=native={}", folder.display());
     println!("cargo:rerun-if-env-changed=OTP_LIBRARY");
 }

@@ -107,9 +107,15 @@ pub struct TreeFault {
     pub table: u32,
     /// The place of the child in its table, from 0, where it is a child's fault.
     pub child: Option<u32>,
+    /// The key whose value is at fault, or that is missing.
+    pub key: Option<&'static str>,
     /// The sentence that tells it.
     pub text: String,
 }
+
+/// The keys of a supervisor and of a child, by the numbers that the header has for them, from 1.
+const FLAG_KEYS: [&str; 5] = ["strategy", "intensity", "period", "auto_shutdown", "child"];
+const CHILD_KEYS: [&str; 8] = ["id", "start", "restart", "significant", "shutdown", "type", "modules", "tree"];
 
 impl TreeFault {
     pub(crate) fn from_raw(raw: &RawFault) -> Self {
@@ -118,6 +124,11 @@ impl TreeFault {
             code: raw.code,
             table: raw.table,
             child: (raw.place == 3 || raw.place == 4).then_some(raw.index),
+            key: match (raw.place, raw.key.checked_sub(1)) {
+                (2, Some(key)) => FLAG_KEYS.get(key as usize).copied(),
+                (4, Some(key)) => CHILD_KEYS.get(key as usize).copied(),
+                _ => None,
+            },
             text: String::from_utf8_lossy(&raw.text[..length]).into_owned(),
         }
     }

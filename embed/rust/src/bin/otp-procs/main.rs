@@ -13,6 +13,7 @@ mod lines;
 mod live;
 mod log;
 mod mark;
+mod near;
 mod os;
 mod outlet;
 mod output;
@@ -28,15 +29,17 @@ mod status;
 mod strays;
 mod subset;
 mod told;
+mod tree_file;
 mod words;
 
 use crate::control::Control;
 use crate::daemon::{Daemon, Ended};
-use crate::log::Log;
+use crate::log::{Class, Log, Record};
 use crate::mark::Mark;
 use crate::plan::{Output, Plan, Plans};
+use crate::replay::Played;
 use crate::words::{Run, Words};
-use otp_embed::{Fault, Note, Order, Strategy, Tree};
+use otp_embed::{Fault, Note, OpenError, Order, Strategy, Tree};
 use std::collections::BTreeSet;
 use std::error::Error;
 use std::fs;
@@ -74,13 +77,7 @@ fn serve(words: Words) -> Result<u8, Box<dyn Error>> {
         }
         Words::Run(run) => Ok(run_tree(&run)? as u8),
         Words::Check(tree, commands) => check(&tree, &commands).map(|()| 0),
-        Words::Replay(tree, log) => {
-            let mut tree = open(&tree)?;
-            let text = read(&log)?;
-            let played = replay::replay(&mut tree, &text).map_err(|differs| format!("{}: {differs}", log.display()))?;
-            writeln!(io::stdout(), "{} events and {} orders, as the rules give them", played.events, played.orders)?;
-            Ok(0)
-        }
+        Words::Replay(tree, log, number) => replay_log(&tree, &log, number).map(|()| 0),
         Words::Ctl(folder, line) => {
             let asked = client::ask(&folder, &line, &mut io::stdout());
             let is_done = asked.map_err(|error| format!("{}: {error}; does a daemon run there?", folder.display()))?;
@@ -96,7 +93,10 @@ fn read(file: &Path) -> Result<String, Box<dyn Error>> {
 
 fn open(file: &Path) -> Result<Tree, Box<dyn Error>> {
     let text = fs::read(file).map_err(|error| format!("{}: {error}", file.display()))?;
-    Tree::open(text).map_err(|error| format!("{}: {error}", file.display()).into())
+    Tree::open(&text).map_err(|error| match error {
+        OpenError::Refused(fault) => tree_file::told(file, &String::from_utf8_lossy(&text), &fault).into(),
+        error => format!("{}: {error}", file.display()).into(),
+    })
 }
 
 fn read_files(tree: &Path, commands: &Path) -> Result<(Tree, Plans), Box<dyn Error>> {
@@ -166,6 +166,44 @@ fn check(tree: &Path, commands: &Path) -> Result<(), Box<dyn Error>> {
     Ok(())
 }
 
+/// Plays a run of the log again: the one of this number, or else the last.
+fn replay_log(tree: &Path, log: &Path, number: Option<usize>) -> Result<(), Box<dyn Error>> {
+    let mut tree = open(tree)?;
+    let (text, name) = (read(log)?, log.display());
+    let runs = replay::runs_of(&text);
+    let number = number.unwrap_or(runs.len());
+    let Some(run) = number.checked_sub(1).and_then(|index| runs.get(index)) else {
+        return Err(format!("{name} has {} runs: there is no --run {number}", runs.len()).into());
+    };
+    let (first, last) = run.span();
+    let which = match runs.len() {
+        1 => String::new(),
+        count => format!("run {number} of {count} (lines {first} to {last}): "),
+    };
+    let played = replay::replay(&mut tree, run).map_err(|differs| format!("{name}: {which}{differs}"))?;
+    let torn = if played.is_torn { "; its last line is cut off" } else { "" };
+    let end = if played.has_ended { "" } else { "; the run has no end" };
+    let Played { events, orders, .. } = played;
+    writeln!(io::stdout(), "{which}{events} events and {orders} orders, as the rules give them{torn}{end}")?;
+    Ok(())
+}
+
+/// The first line of a run: by what it was run, of what, and when.
+fn began(run: &Run) -> Record {
+    let whole = |file: &Path| std::path::absolute(file).unwrap_or_else(|_| file.to_path_buf()).display().to_string();
+    let proc_file = |name: &str| fs::read_to_string(format!("/proc/{name}")).unwrap_or_default();
+    let uptime: f64 =
+        proc_file("uptime").split(' ').next().and_then(|seconds| seconds.parse().ok()).unwrap_or_default();
+    Record::new(Class::Remark, "began")
+        .text("version", env!("CARGO_PKG_VERSION"))
+        .text("library", env!("OTP_LIBRARY_SUM"))
+        .text("tree", whole(&run.tree))
+        .text("commands", whole(&run.commands))
+        .number("pid", u64::from(std::process::id()))
+        .text("boot", proc_file("sys/kernel/random/boot_id").trim())
+        .number("uptime_ms", (uptime * 1000.0) as u64)
+}
+
 fn no_tables(commands: &Path, lacking: &[String]) -> String {
     format!("{} has no table for {}; write [{}] and its command", commands.display(), lacking.join(", "), lacking[0])
 }
@@ -184,10 +222,11 @@ fn run_tree(run: &Run) -> Result<Ended, Box<dyn Error>> {
         os::signals_as_descriptor().map_err(|error| format!("there is no descriptor for signals: {error}"))?;
     os::adopt_orphans().map_err(|error| format!("orphans can't be adopted: {error}"))?;
     let control = run.control.as_deref().map(Control::open).transpose()?;
-    let log =
+    let mut log =
         Log::open(run.log.as_deref(), run.is_json).map_err(|error| format!("the log can't be opened: {error}"))?;
     let place = run.control.as_ref().unwrap_or(&run.tree);
     let mark = Mark::new(place).map_err(|error| format!("{}: {error}", place.display()))?;
+    log.tell(0, &began(run));
     let daemon = Daemon::new(tree, plans, mark, log, control, signals)?;
     Ok(daemon.run())
 }

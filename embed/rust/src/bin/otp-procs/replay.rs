@@ -29,6 +29,49 @@ pub struct Played {
     pub events: usize,
     /// Lines of orders.
     pub orders: usize,
+    /// The last order is the end.
+    pub has_ended: bool,
+    /// The last line is cut off, as by the end of the machine.
+    pub is_torn: bool,
+}
+
+/// The lines of one run of a daemon, each with its number from 1. Empty ones are left out.
+#[derive(Debug, Default)]
+pub struct Run<'a> {
+    lines: Vec<(usize, &'a str)>,
+}
+
+impl Run<'_> {
+    /// The numbers of its first and its last line.
+    pub fn span(&self) -> (usize, usize) {
+        let number = |line: Option<&(usize, &str)>| line.map_or(0, |(number, _)| *number);
+        (number(self.lines.first()), number(self.lines.last()))
+    }
+
+    /// It has remarks alone.
+    fn is_bare(&self) -> bool {
+        !self.lines.iter().any(|(_, line)| line.contains("\"order\":") || line.contains("\"event\":"))
+    }
+}
+
+/// The runs of a log: each begins with a line that says so. What stands in front of the first such line is one, too, if there is
+/// more than remarks, as of a daemon that wrote none.
+pub fn runs_of(log: &str) -> Vec<Run<'_>> {
+    let mut runs = vec![Run::default()];
+    for (index, line) in log.lines().enumerate().filter(|(_, line)| !line.trim().is_empty()) {
+        let begins = line.contains("\"remark\":\"began\"")
+            && fields_of(line).is_some_and(|fields| fields.get("remark").is_some_and(|remark| remark == "began"));
+        if begins {
+            runs.push(Run::default());
+        }
+        if let Some(run) = runs.last_mut() {
+            run.lines.push((index + 1, line));
+        }
+    }
+    if runs.len() > 1 && runs[0].is_bare() {
+        runs.remove(0);
+    }
+    runs
 }
 
 /// The texts and numbers of a line, by their keys. Only lines that this program writes are read: flat objects.
@@ -118,40 +161,53 @@ fn words_in(fields: &BTreeMap<String, String>, order: &str) -> String {
     }
 }
 
-/// Plays the lines of a log in JSON. Remarks are passed over.
-pub fn replay(tree: &mut Tree, log: &str) -> Result<Played, Differs> {
+/// Plays the lines of a run in JSON. Remarks are passed over.
+pub fn replay(tree: &mut Tree, run: &Run<'_>) -> Result<Played, Differs> {
     let mut played = Played::default();
-    for (index, line) in log.lines().enumerate() {
-        let differs = |text: String| Differs { line: index + 1, text };
-        let fields = fields_of(line).ok_or_else(|| differs("no line of a log with --json".to_string()))?;
-        if fields.contains_key("remark") {
-            if fields.contains_key("lines") {
-                return Err(differs("lines were lost here, so that nothing can be said of what follows".to_string()));
+    let (_, last) = run.span();
+    for &(line, text) in &run.lines {
+        let Some(fields) = fields_of(text) else {
+            if line == last && played.orders > 0 && !text.ends_with('}') {
+                played.is_torn = true;
+                break;
             }
-            continue;
-        }
-        let reading = fields.get("ms").and_then(|ms| ms.parse().ok()).ok_or_else(|| differs("no time".to_string()))?;
-        tree.tick(reading).map_err(|fault| differs(fault.to_string()))?;
-        if let Some(event) = fields.get("event") {
-            if let Some(order) = next(tree).map_err(differs)? {
-                return Err(differs(format!("the tree orders {order} before this")));
-            }
-            let told = told_of(&fields, event).ok_or_else(|| differs(format!("no event {event}")))?;
-            told.tell(tree, reading).map_err(|fault| differs(fault.to_string()))?;
-            played.events += 1;
-        } else if let Some(wanted) = fields.get("order") {
-            let order = next(tree).map_err(differs)?;
-            let Some(order) = order else {
-                return Err(differs(format!("the tree doesn't order {wanted}")));
-            };
-            let (word, words) = words_of(&order);
-            if (word, &words) != (wanted.as_str(), &words_in(&fields, wanted)) {
-                return Err(differs(format!("the tree orders {word} {words}")));
-            }
-            played.orders += 1;
-        }
+            return Err(Differs { line, text: "no line of a log with --json".to_string() });
+        };
+        play(tree, &fields, &mut played).map_err(|text| Differs { line, text })?;
+    }
+    if played.events + played.orders == 0 {
+        let text = "no event and no order up to here, so that there is nothing to compare".to_string();
+        return Err(Differs { line: last, text });
     }
     Ok(played)
+}
+
+fn play(tree: &mut Tree, fields: &BTreeMap<String, String>, played: &mut Played) -> Result<(), String> {
+    if let Some(remark) = fields.get("remark") {
+        if remark == "lost" && fields.contains_key("lines") {
+            return Err("lines were lost here, so that nothing can be said of what follows".to_string());
+        }
+        return Ok(());
+    }
+    let reading = fields.get("ms").and_then(|ms| ms.parse().ok()).ok_or("no time")?;
+    tree.tick(reading).map_err(|fault| fault.to_string())?;
+    if let Some(event) = fields.get("event") {
+        if let Some(order) = next(tree)? {
+            return Err(format!("the tree orders {order} before this"));
+        }
+        let told = told_of(fields, event).ok_or_else(|| format!("no event {event}"))?;
+        told.tell(tree, reading).map_err(|fault| fault.to_string())?;
+        played.events += 1;
+    } else if let Some(wanted) = fields.get("order") {
+        let order = next(tree)?.ok_or_else(|| format!("the tree doesn't order {wanted}"))?;
+        let (word, words) = words_of(&order);
+        if (word, &words) != (wanted.as_str(), &words_in(fields, wanted)) {
+            return Err(format!("the tree orders {word} {words}"));
+        }
+        played.orders += 1;
+        played.has_ended = word == "end";
+    }
+    Ok(())
 }
 
 fn next(tree: &mut Tree) -> Result<Option<Order>, String> {
@@ -161,6 +217,19 @@ fn next(tree: &mut Tree) -> Result<Option<Order>, String> {
 #[cfg(test)]
 mod tests {
     use super::*;
+
+    #[test]
+    fn runs_begin_with_a_line_that_says_so() {
+        let began = "{\"time\":\"T\",\"ms\":0,\"remark\":\"began\",\"pid\":1}";
+        let order = "{\"ms\":0,\"order\":\"ready\"}";
+        let says = "{\"ms\":0,\"remark\":\"says\",\"line\":\"\\\"remark\\\":\\\"began\\\"\"}";
+        let spans = |lines: &[&str]| runs_of(&lines.join("\n")).iter().map(Run::span).collect::<Vec<_>>();
+        assert_eq!(spans(&[]), [(0, 0)]);
+        assert_eq!(spans(&[order, order]), [(1, 2)]);
+        assert_eq!(spans(&["", began, order, says, began, order]), [(2, 4), (5, 6)]);
+        assert_eq!(spans(&[says, began, order]), [(2, 3)]);
+        assert_eq!(spans(&[order, began, order]), [(1, 1), (2, 3)]);
+    }
 
     #[test]
     fn a_line_is_read_as_it_is_written() {

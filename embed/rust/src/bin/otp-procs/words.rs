@@ -12,8 +12,8 @@ pub enum Words {
     Run(Run),
     /// Look whether both files can be read.
     Check(PathBuf, PathBuf),
-    /// Play a log again.
-    Replay(PathBuf, PathBuf),
+    /// Play a log again: its last run, or the one of this number.
+    Replay(PathBuf, PathBuf, Option<usize>),
     /// Ask a daemon, which has this control folder, for something.
     Ctl(PathBuf, String),
     /// Print this text.
@@ -40,7 +40,7 @@ otp-procs: supervises real processes by the rules of OTP's supervisor
 
   otp-procs run TREE COMMANDS [--log FILE] [--json] [--control FOLDER | --no-control]
   otp-procs check TREE COMMANDS       are both files as they should be, and the programs there?
-  otp-procs replay TREE LOG           does a log (--json) have the orders that the rules give?
+  otp-procs replay TREE LOG [--run N] does a log (--json) have the orders that the rules give? Its last run, or run N
   otp-procs ctl [--control FOLDER] REQUEST
 
 TREE is a tree file, COMMANDS says what each start word runs. TERM or INT shuts the tree down in order, a second
@@ -51,7 +51,7 @@ one kills all; HUP opens the log's file anew. REQUEST is one of:
 /// What the words mean, or why they mean nothing.
 pub fn read(words: impl Iterator<Item = OsString>) -> Result<Words, String> {
     let mut plain: Vec<OsString> = Vec::new();
-    let (mut control, mut log, mut is_json, mut no_control) = (None, None, false, false);
+    let (mut control, mut log, mut is_json, mut no_control, mut run) = (None, None, false, false, None);
     let mut words = words.peekable();
     while let Some(word) = words.next() {
         // What stands behind `ctl` is the request's, but for the folder.
@@ -66,6 +66,7 @@ pub fn read(words: impl Iterator<Item = OsString>) -> Result<Words, String> {
                 return Ok(Words::Print(format!("otp-procs {}\n", env!("CARGO_PKG_VERSION"))));
             }
             Some("--log") if !is_ctl => log = Some(file()?),
+            Some("--run") if !is_ctl => run = Some(file()?),
             Some("--json") if !is_ctl => is_json = true,
             Some("--no-control") if !is_ctl => no_control = true,
             Some(flag) if flag.starts_with("--") && !is_ctl => {
@@ -89,7 +90,14 @@ pub fn read(words: impl Iterator<Item = OsString>) -> Result<Words, String> {
             Ok(Words::Run(Run { tree, commands, control, log, is_json }))
         }
         ("check", Some(tree), Some(commands), None) => Ok(Words::Check(tree, commands)),
-        ("replay", Some(tree), Some(log), None) => Ok(Words::Replay(tree, log)),
+        ("replay", Some(tree), Some(log), None) => {
+            let number =
+                run.map(|number: PathBuf| number.to_str().and_then(|number| number.parse().ok()).ok_or(number));
+            match number.transpose() {
+                Ok(number) => Ok(Words::Replay(tree, log, number)),
+                Err(other) => Err(format!("--run wants the number of a run, from 1, and not {}", other.display())),
+            }
+        }
         ("run" | "check", ..) => Err(format!("{verb} wants two files: TREE COMMANDS")),
         ("replay", ..) => Err("replay wants two files: TREE LOG".to_string()),
         _ => Err("say run, check, replay or ctl; otp-procs --help tells more".to_string()),
