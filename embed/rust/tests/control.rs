@@ -46,7 +46,7 @@ fn each_request_is_answered() {
     assert!(json.contains("\"restarts_in_period\":0") && json.contains("\"pid\":"), "{json}");
     assert!(refused(&["start", "a"]).contains("the child runs"));
     assert!(refused(&["start", "nobody"]).contains("no such child"));
-    assert!(refused(&["start", "nobody/x"]).contains("no supervisor"));
+    assert!(refused(&["start", "nobody/x"]).contains("no such supervisor"));
     assert!(refused(&["start", "a/"]).contains("no such supervisor"));
     assert!(refused(&["start", "pool/w"]).contains("simple_one_for_one"));
     // No process ends by being started.
@@ -105,9 +105,10 @@ fn rubbish_and_silence_keep_nobody_waiting() {
     // A silent client is cut off in the end.
     let mut one = silent.into_iter().next().unwrap();
     one.set_read_timeout(Some(Duration::from_secs(60))).unwrap();
-    let mut rest = Vec::new();
+    let mut told = String::new();
     // A read to the end goes on where a signal comes between.
-    assert_eq!(one.read_to_end(&mut rest).unwrap(), 0);
+    one.read_to_string(&mut told).unwrap();
+    assert!(told.starts_with("error\nno request came"), "{told}");
     assert_eq!(daemon.stop(), 0);
     daemon.replay();
 }

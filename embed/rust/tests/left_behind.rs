@@ -25,7 +25,7 @@ fn die_and_live(mut daemon: Daemon, flags: &[&str], between: usize, after: usize
     wait_until("all has started", || daemon.left().len() == after);
     assert!(daemon.left().iter().all(|pid| !before.contains(pid)));
     let log = daemon.log();
-    assert_eq!((log[0].get("remark"), log[0].number("killed")), ("strays", between as u64), "{}", daemon.read("log"));
+    assert_eq!((log[1].get("remark"), log[1].number("killed")), ("strays", between as u64), "{}", daemon.read("log"));
     assert_eq!(daemon.stop(), 0);
     assert_eq!(daemon.left(), []);
     daemon.replay();
@@ -60,7 +60,7 @@ fn what_was_started_as_another_user_is_ended_by_the_next_one() {
     daemon.start_again(&WITH_CONTROL);
     daemon.wait_ready();
     assert!(!daemon.left().contains(&pid));
-    assert_eq!(daemon.log()[0].get("remark"), "strays");
+    assert_eq!(daemon.log()[1].get("remark"), "strays");
     assert_eq!(daemon.stop(), 0);
 }
 

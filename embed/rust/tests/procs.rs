@@ -469,8 +469,8 @@ fn a_log_that_nobody_reads_keeps_nobody_waiting() {
     // What there is room for is read; the next line says how many were lost.
     let mut room = vec![0; 1 << 16];
     assert!(std::io::Read::read(&mut reader, &mut room).unwrap() > 50_000);
-    let (is_done, text) = daemon.ctl(&["status"]);
-    assert!(is_done, "{text}");
+    let (_, text) = daemon.ctl(&["start", "a"]);
+    assert!(text.contains("the child runs"), "{text}");
     let count = std::io::Read::read(&mut reader, &mut room).unwrap();
     let text = String::from_utf8_lossy(&room[..count]);
     assert!(text.contains("\"remark\":\"lost\",\"lines\":"), "{text}");

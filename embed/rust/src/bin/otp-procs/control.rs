@@ -1,27 +1,27 @@
 //! The control socket: who may speak, and that nobody who hangs or sends rubbish is waited for.
-//!
-//! A client sends one line, and gets `ok` or `error`, a line's end, and text until the daemon closes the connection. Before that it
-//! may get `wait`, and a line that says why.
 
-use crate::os::{self, READABLE, WRITABLE, Waited};
+use crate::os::{self, READABLE, Waited};
+use crate::peer::{Peer, Stage};
 use std::fmt;
 use std::fs::{self, DirBuilder, File, Permissions};
-use std::io::{self, Read, Write};
+use std::io::{self, Write};
 use std::os::fd::AsRawFd;
 use std::os::unix::fs::{DirBuilderExt, MetadataExt, PermissionsExt};
 use std::os::unix::net::{UnixListener, UnixStream};
 use std::path::{Path, PathBuf};
+use std::time::{Duration, Instant};
 
-/// So many clients are served at once; whoever comes then is turned away.
+/// So many clients are served at once.
 const MOST: usize = 32;
-/// A client has so many milliseconds to say what it wants, and to read the end of its answer.
-const PATIENCE: u64 = 5_000;
-/// A request is no longer than this.
-const LONGEST: usize = 1024;
-/// Whoever follows the log and leaves so many bytes unread is cut off.
-const UNREAD: usize = 1024 * 1024;
+/// So many of them may follow the log.
+const FOLLOWERS: usize = 16;
+/// So many more places there are for those who ask for `shutdown`.
+const SPARE: usize = 16;
 /// No client is accepted for so many milliseconds after that was refused by the system.
 const PAUSE: u64 = 1_000;
+/// At the end clients have so long to read what is left, as long as they read at all.
+const LAST: Duration = Duration::from_secs(1);
+const STEP: Duration = Duration::from_millis(200);
 
 /// The socket's name in its folder.
 const SOCKET: &str = "socket";
@@ -55,42 +55,34 @@ impl fmt::Display for ControlError {
 
 impl std::error::Error for ControlError {}
 
-/// Where the socket is, if nobody says: in the user's own runtime folder, or else below `/tmp`.
+/// The variable that names the control folder.
+const VARIABLE: &str = "OTP_CONTROL";
+
+fn variable(name: &str) -> Option<PathBuf> {
+    std::env::var_os(name).filter(|value| !value.is_empty()).map(PathBuf::from)
+}
+
+/// Where a daemon has its socket if nobody says: in the user's own runtime folder, or else below `/tmp`.
 pub fn usual_folder() -> PathBuf {
-    match std::env::var_os("XDG_RUNTIME_DIR").filter(|folder| !folder.is_empty()) {
-        Some(folder) => PathBuf::from(folder).join("otp-procs"),
-        None => PathBuf::from(format!("/tmp/otp-procs-{}", os::own_user())),
+    usual_folders().swap_remove(0)
+}
+
+/// Where it may be: a daemon that was started without a login has no runtime folder, and one who asks may have none.
+pub fn usual_folders() -> Vec<PathBuf> {
+    if let Some(folder) = variable(VARIABLE) {
+        return vec![folder];
+    }
+    let user = os::own_user();
+    let below_tmp = PathBuf::from(format!("/tmp/otp-procs-{user}"));
+    match variable("XDG_RUNTIME_DIR") {
+        Some(folder) => vec![folder.join("otp-procs"), below_tmp],
+        None => vec![below_tmp, PathBuf::from(format!("/run/user/{user}/otp-procs"))],
     }
 }
 
 /// The socket in a control folder.
 pub fn socket_in(folder: &Path) -> PathBuf {
     folder.join(SOCKET)
-}
-
-#[derive(Debug, PartialEq, Eq)]
-enum Stage {
-    /// It hasn't said what it wants.
-    Asking,
-    /// It waits for its answer.
-    Waiting,
-    /// It gets each new line of the log.
-    Following,
-    /// It has its whole answer to read.
-    Leaving,
-}
-
-#[derive(Debug)]
-struct Client {
-    token: u64,
-    stream: UnixStream,
-    input: Vec<u8>,
-    output: Vec<u8>,
-    stage: Stage,
-    /// The reading at which it is cut off.
-    until: Option<u64>,
-    /// It says nothing more.
-    is_silent: bool,
 }
 
 /// What a turn of the socket has brought.
@@ -107,7 +99,7 @@ pub enum Spoken {
 pub struct Control {
     folder: PathBuf,
     listener: UnixListener,
-    clients: Vec<Client>,
+    clients: Vec<Peer>,
     tokens: u64,
     /// Nobody is accepted before this reading.
     paused: u64,
@@ -157,18 +149,14 @@ impl Control {
     pub fn waited(&self, now: u64) -> Vec<Waited> {
         let accepts = if now < self.paused { -1 } else { self.listener.as_raw_fd() };
         let mut waited = vec![Waited::new(accepts, READABLE)];
-        for client in &self.clients {
-            let reads = if client.is_silent { 0 } else { READABLE };
-            let writes = if client.output.is_empty() { 0 } else { WRITABLE };
-            waited.push(Waited::new(client.stream.as_raw_fd(), reads | writes));
-        }
+        waited.extend(self.clients.iter().map(Peer::waited));
         waited
     }
 
     /// The reading at which somebody is cut off, or accepted again.
     pub fn next_due(&self, now: u64) -> Option<u64> {
         let paused = (now < self.paused).then_some(self.paused);
-        self.clients.iter().filter_map(|client| client.until).chain(paused).min()
+        self.clients.iter().filter_map(Peer::due).chain(paused).min()
     }
 
     /// Reads and writes what can be, given what was seen of [`Control::waited`].
@@ -177,7 +165,7 @@ impl Control {
         for (client, seen) in self.clients.iter_mut().zip(seen.iter().skip(1)) {
             client.turn(now, seen, &mut spoken);
         }
-        self.clients.retain(|client| client.until.is_none_or(|until| now < until));
+        self.clients.retain_mut(|client| client.stays(now));
         if seen.first().is_some_and(Waited::is_seen) {
             self.accept(now, &mut spoken);
         }
@@ -185,7 +173,8 @@ impl Control {
     }
 
     /// As many are accepted as there is room for. The others wait for the next turn, since of those that came now many may be
-    /// gone by then; where nobody is, they are turned away.
+    /// gone by then. Where there is no room, one that has said nothing yet makes room; where all have, who comes is told that the
+    /// daemon is busy, and only `shutdown` is taken.
     fn accept(&mut self, now: u64, spoken: &mut Vec<Spoken>) {
         let room = MOST - self.clients.len().min(MOST);
         for _ in 0..if room > 0 { room } else { MOST } {
@@ -197,170 +186,115 @@ impl Control {
                     return;
                 }
             };
-            match os::peer_user(&stream) {
-                Ok(user) if user == os::own_user() => {}
-                user => {
-                    spoken.push(Spoken::TurnedAway(user.unwrap_or(u32::MAX)));
-                    continue;
-                }
-            }
-            if room == 0 || stream.set_nonblocking(true).is_err() {
+            if stream.set_nonblocking(true).is_err() {
                 continue;
             }
-            self.tokens += 1;
-            self.clients.push(Client {
-                token: self.tokens,
-                stream,
-                input: Vec::new(),
-                output: Vec::new(),
-                stage: Stage::Asking,
-                until: Some(now + PATIENCE),
-                is_silent: false,
-            });
+            match os::peer_user(&stream) {
+                Ok(user) if user == os::own_user() => self.welcome(now, stream, spoken),
+                user => {
+                    let user = user.unwrap_or(u32::MAX);
+                    let _ = (&stream).write_all(turned_away(user).as_bytes());
+                    spoken.push(Spoken::TurnedAway(user));
+                }
+            }
         }
     }
 
-    fn client(&mut self, token: u64) -> Option<&mut Client> {
+    fn welcome(&mut self, now: u64, stream: UnixStream, spoken: &mut Vec<Spoken>) {
+        let mut busy = None;
+        if self.clients.len() >= MOST {
+            let idle = self.clients.iter().position(|client| client.stage == Stage::Asking);
+            match idle.map(|idle| self.clients.remove(idle)) {
+                Some(mut idle) => idle.refuse(now, "busy: another client needs the place; ask at once"),
+                None => busy = Some(self.busy()),
+            }
+        }
+        self.tokens += 1;
+        let mut client = Peer::new(self.tokens, stream, busy, now);
+        if self.clients.len() >= MOST + SPARE {
+            client.refuse(now, &self.busy());
+            return;
+        }
+        // Most have said what they want.
+        client.read(now, spoken);
+        self.clients.push(client);
+    }
+
+    fn busy(&self) -> String {
+        let (all, following) = (self.clients.len(), self.following());
+        format!(
+            "busy: {all} clients wait for an answer or read one, {following} of them by tail -f; end some, or try again"
+        )
+    }
+
+    fn following(&self) -> usize {
+        self.clients.iter().filter(|client| client.stage == Stage::Following).count()
+    }
+
+    fn client(&mut self, token: u64) -> Option<&mut Peer> {
         self.clients.iter_mut().find(|client| client.token == token)
     }
 
     /// The whole answer of a client. One that has gone is answered nothing.
     pub fn answer(&mut self, now: u64, token: u64, answer: Result<&str, &str>) {
         if let Some(client) = self.client(token) {
-            client.output.extend_from_slice(head_of(answer).as_bytes());
-            client.stage = Stage::Leaving;
-            client.until = Some(now + PATIENCE);
-            client.flush();
+            client.answer(now, answer);
         }
     }
 
     /// A client that goes on waiting for its answer is told why.
-    pub fn say_why(&mut self, token: u64, text: &str) {
+    pub fn say_why(&mut self, now: u64, token: u64, text: &str) {
         if let Some(client) = self.client(token) {
-            client.output.extend_from_slice(format!("wait\n{text}\n").as_bytes());
-            client.flush();
+            client.say_why(now, text);
         }
     }
 
-    /// The beginning of an answer, and from then on each new line of the log.
-    pub fn follow(&mut self, token: u64, text: &str) {
+    /// The beginning of an answer, and from then on each new line of the log. Only so many clients may have that.
+    pub fn follow(&mut self, now: u64, token: u64, text: &str) {
+        let is_free = self.following() < FOLLOWERS;
         if let Some(client) = self.client(token) {
-            client.output.extend_from_slice(head_of(Ok(text)).as_bytes());
-            client.stage = Stage::Following;
-            client.flush();
+            if is_free {
+                client.follow(now, text);
+            } else {
+                let text = format!("busy: {FOLLOWERS} clients follow the log; end one, or use tail without -f");
+                client.refuse(now, &text);
+            }
         }
     }
 
     /// Whether somebody follows the log.
     pub fn is_followed(&self) -> bool {
-        self.clients.iter().any(|client| client.stage == Stage::Following)
+        self.following() > 0
     }
 
     /// Whoever follows the log gets these lines.
-    pub fn tell(&mut self, lines: &[String]) {
+    pub fn tell(&mut self, now: u64, lines: &[String]) {
         for client in self.clients.iter_mut().filter(|client| client.stage == Stage::Following) {
-            for line in lines {
-                client.output.extend_from_slice(line.as_bytes());
-                client.output.push(b'\n');
-            }
-            client.flush();
-            if client.output.len() > UNREAD {
-                client.until = Some(0);
-            }
+            client.tell(now, lines);
         }
     }
 
-    /// Writes what can be written at once, and takes the socket away.
-    pub fn close(mut self) {
-        for client in &mut self.clients {
-            client.flush();
+    /// Takes the socket away, once all clients have their whole answers or don't read on.
+    pub fn close(mut self, now: u64) {
+        for client in self.clients.iter_mut().filter(|client| client.stage == Stage::Following) {
+            client.finish(now, false);
+        }
+        let begun = Instant::now();
+        loop {
+            self.clients.iter_mut().for_each(|client| client.flush(now));
+            self.clients.retain(Peer::has_output);
+            let mut waited: Vec<Waited> = self.clients.iter().map(Peer::waited).collect();
+            if waited.is_empty() || begun.elapsed() >= LAST || os::wait(&mut waited, Some(STEP)).is_err() {
+                break;
+            }
+            if !waited.iter().any(Waited::is_writable) {
+                break;
+            }
         }
         let _ = fs::remove_file(socket_in(&self.folder));
     }
 }
 
-fn head_of(answer: Result<&str, &str>) -> String {
-    let (head, text) = match answer {
-        Ok(text) => ("ok", text),
-        Err(text) => ("error", text),
-    };
-    let end = if text.is_empty() || text.ends_with('\n') { "" } else { "\n" };
-    format!("{head}\n{text}{end}")
-}
-
-impl Client {
-    fn turn(&mut self, now: u64, seen: &Waited, spoken: &mut Vec<Spoken>) {
-        if seen.is_readable() {
-            self.read(now, spoken);
-        }
-        if seen.is_writable() {
-            self.flush();
-        }
-        if seen.is_hung_up() {
-            self.until = Some(0);
-        }
-    }
-
-    /// Reads once. What comes behind the first line is thrown away.
-    fn read(&mut self, now: u64, spoken: &mut Vec<Spoken>) {
-        let mut room = [0; LONGEST];
-        match self.stream.read(&mut room) {
-            Ok(0) => {
-                self.is_silent = true;
-                if self.stage == Stage::Asking {
-                    self.until = Some(0);
-                }
-            }
-            Ok(count) if self.stage == Stage::Asking => {
-                self.input.extend_from_slice(&room[..count]);
-                self.ask(now, spoken);
-            }
-            Ok(_) => {}
-            Err(error) if matches!(error.kind(), io::ErrorKind::WouldBlock | io::ErrorKind::Interrupted) => {}
-            Err(_) => self.until = Some(0),
-        }
-    }
-
-    fn ask(&mut self, now: u64, spoken: &mut Vec<Spoken>) {
-        let Some(end) = self.input.iter().position(|&byte| byte == b'\n') else {
-            if self.input.len() > LONGEST {
-                self.refuse(now, "a request has at most 1024 bytes and ends with a line's end");
-            }
-            return;
-        };
-        match std::str::from_utf8(&self.input[..end]) {
-            Ok(line) if end <= LONGEST => {
-                spoken.push(Spoken::Asked(self.token, line.trim_end_matches('\r').to_string()));
-                self.stage = Stage::Waiting;
-                self.until = None;
-                self.input = Vec::new();
-            }
-            _ => self.refuse(now, "a request is one line of at most 1024 bytes of text"),
-        }
-    }
-
-    fn refuse(&mut self, now: u64, text: &str) {
-        self.output.extend_from_slice(head_of(Err(text)).as_bytes());
-        self.stage = Stage::Leaving;
-        self.until = Some(now + PATIENCE);
-        self.flush();
-    }
-
-    /// Writes what is taken without waiting. Whoever has its whole answer is let go.
-    fn flush(&mut self) {
-        while !self.output.is_empty() {
-            match self.stream.write(&self.output) {
-                Ok(count) if count > 0 => drop(self.output.drain(..count)),
-                Err(error) if error.kind() == io::ErrorKind::WouldBlock => return,
-                Err(error) if error.kind() == io::ErrorKind::Interrupted => {}
-                _ => {
-                    self.output = Vec::new();
-                    self.until = Some(0);
-                }
-            }
-        }
-        if self.stage == Stage::Leaving {
-            self.until = Some(0);
-        }
-    }
+fn turned_away(user: u32) -> String {
+    format!("error\nthe daemon serves its own user ({}) alone, and you are {user}\nend 1\n", os::own_user())
 }

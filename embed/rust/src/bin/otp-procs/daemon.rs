@@ -41,8 +41,8 @@ pub enum Ended {
 /// What is done once a call is answered.
 #[derive(Clone, Debug, PartialEq, Eq)]
 pub(crate) struct Waiter {
-    /// The client that waits.
-    pub token: u64,
+    /// The clients that wait.
+    pub tokens: Vec<u64>,
     /// The call's number; 0 where it is the end of the root that is waited for.
     pub call: u64,
     /// The call that follows, if this one is done.
@@ -51,6 +51,8 @@ pub(crate) struct Waiter {
     pub path: String,
     /// What is said besides, if it is done.
     pub more: &'static str,
+    /// It was to be a restart, and another client has asked for a stop since.
+    pub is_overtaken: bool,
     /// The supervisor that was called.
     pub supervisor: u32,
     /// The reading at which it is told what it waits for; nothing once that was done.
@@ -60,7 +62,16 @@ pub(crate) struct Waiter {
 impl Waiter {
     /// A client that has named this path.
     pub fn new(token: u64, path: &str) -> Self {
-        Waiter { token, call: 0, then: None, path: path.to_string(), more: "", supervisor: 0, told_at: None }
+        Waiter {
+            tokens: vec![token],
+            call: 0,
+            then: None,
+            path: path.to_string(),
+            more: "",
+            is_overtaken: false,
+            supervisor: 0,
+            told_at: None,
+        }
     }
 }
 
@@ -313,8 +324,8 @@ impl Daemon {
                 }
                 // What a client asks for ends nothing but its own request.
                 Err(fault) => {
-                    let token = untold.waiter.map_or(0, |waiter| waiter.token);
-                    self.answer(token, Err(&fault.to_string()));
+                    let tokens = untold.waiter.map_or_else(Vec::new, |waiter| waiter.tokens);
+                    self.answer_all(&tokens, Err(&fault.to_string()));
                 }
             }
         }
@@ -360,7 +371,7 @@ impl Daemon {
         self.log.is_followed = self.control.as_ref().is_some_and(Control::is_followed);
         let lines = self.log.take_fresh();
         if let Some(control) = &mut self.control {
-            control.tell(&lines);
+            control.tell(self.reading, &lines);
         }
     }
 
@@ -388,12 +399,12 @@ impl Daemon {
         self.tell_followers();
         self.log.flush();
         let now = self.now();
-        let tokens: Vec<u64> = self.waiters.iter().map(|waiter| waiter.token).collect();
+        let tokens: Vec<u64> = self.waiters.iter().flat_map(|waiter| waiter.tokens.iter().copied()).collect();
         if let Some(mut control) = self.control.take() {
             for token in tokens {
                 control.answer(now, token, Ok("the tree has ended"));
             }
-            control.close();
+            control.close(now);
         }
         ended
     }

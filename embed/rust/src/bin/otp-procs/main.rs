@@ -9,20 +9,24 @@ mod daemon;
 mod deeds;
 mod ends;
 mod happenings;
+mod help;
 mod lines;
 mod live;
 mod log;
 mod mark;
+mod named;
 mod near;
 mod os;
 mod outlet;
 mod output;
+mod peer;
 mod plan;
 mod proc_files;
 mod program;
 mod record;
 mod replay;
 mod request;
+mod requests;
 mod sink;
 mod spawn;
 mod status;
@@ -38,7 +42,7 @@ use crate::log::{Class, Log, Record};
 use crate::mark::Mark;
 use crate::plan::{Output, Plan, Plans};
 use crate::replay::Played;
-use crate::words::{Run, Words};
+use crate::words::{Ctl, Run, Words};
 use otp_embed::{Fault, Note, OpenError, Order, Strategy, Tree};
 use std::collections::BTreeSet;
 use std::error::Error;
@@ -78,9 +82,8 @@ fn serve(words: Words) -> Result<u8, Box<dyn Error>> {
         Words::Run(run) => Ok(run_tree(&run)? as u8),
         Words::Check(tree, commands) => check(&tree, &commands).map(|()| 0),
         Words::Replay(tree, log, number) => replay_log(&tree, &log, number).map(|()| 0),
-        Words::Ctl(folder, line) => {
-            let asked = client::ask(&folder, &line, &mut io::stdout());
-            let is_done = asked.map_err(|error| format!("{}: {error}; does a daemon run there?", folder.display()))?;
+        Words::Ctl(Ctl { folder, line, goes_on, within }) => {
+            let is_done = client::ask(folder.as_deref(), &line, goes_on, within)?;
             Ok(if is_done { 0 } else { REFUSED })
         }
     }

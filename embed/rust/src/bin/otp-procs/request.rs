@@ -1,13 +1,15 @@
 //! What a control client may ask for.
 
+use crate::near;
+
 /// A request.
 #[derive(Clone, Debug, PartialEq, Eq)]
 pub enum Request {
     /// The tree as it stands; for machines where true.
     Status(bool),
-    /// `which_children` of the supervisor with this path.
+    /// What `which_children` of the supervisor with this path would answer.
     Which(String),
-    /// `count_children` of it.
+    /// The same of `count_children`.
     Count(String),
     /// A child without a process is started, or one more child of a `simple_one_for_one`.
     Start(String),
@@ -21,12 +23,22 @@ pub enum Request {
     Shutdown,
 }
 
+impl Request {
+    /// It changes nothing.
+    pub fn is_question(&self) -> bool {
+        matches!(self, Request::Status(_) | Request::Which(_) | Request::Count(_) | Request::Tail(..))
+    }
+}
+
+/// The names of all.
+const NAMES: [&str; 8] = ["status", "which", "count", "start", "stop", "restart", "tail", "shutdown"];
+
 /// The words, as `ctl --help` lists them.
 pub const WORDS: &str = "\
   status [--json]   the tree: states, processes, times, restarts of the period
   which [PATH/]     which_children of a supervisor; without a path of the root
   count [PATH/]     count_children of it
-  start PATH        start a child that has no process (restart_child)
+  start PATH        start a child that has no process (restart_child); PATH as status prints it
   start PATH/       start one more child of a simple_one_for_one (start_child)
   stop PATH         shut a child down; it stays down (terminate_child)
   stop PATH/#N      the same of the process N of a simple_one_for_one
@@ -44,9 +56,9 @@ pub fn request_of(line: &str) -> Result<Request, String> {
         ("status", []) => Ok(Request::Status(false)),
         ("status", ["--json"]) => Ok(Request::Status(true)),
         ("which", []) => Ok(Request::Which(String::new())),
-        ("which", [path]) => Ok(Request::Which(supervisor_path(path))),
+        ("which", [path]) => Ok(Request::Which((*path).to_string())),
         ("count", []) => Ok(Request::Count(String::new())),
-        ("count", [path]) => Ok(Request::Count(supervisor_path(path))),
+        ("count", [path]) => Ok(Request::Count((*path).to_string())),
         ("start", [path]) => Ok(Request::Start((*path).to_string())),
         ("stop", [path]) => Ok(Request::Stop((*path).to_string())),
         ("restart", [path]) => Ok(Request::Restart((*path).to_string())),
@@ -54,14 +66,8 @@ pub fn request_of(line: &str) -> Result<Request, String> {
         ("tail", rest) => tail_of(rest),
         ("start" | "stop" | "restart", _) => Err(format!("{word} takes one PATH, as in: {word} pool/a")),
         ("status" | "which" | "count" | "shutdown", _) => Err(format!("{word} has too many words:\n{WORDS}")),
-        _ => Err(format!("there is no request {word}; there are:\n{WORDS}")),
+        _ => Err(format!("there is no request {word}{}; there are:\n{WORDS}", near::question(word, NAMES))),
     }
-}
-
-/// A supervisor's path has a `/` behind it, unless it is the root's.
-fn supervisor_path(path: &str) -> String {
-    let path = path.trim_end_matches('/');
-    if path.is_empty() { String::new() } else { format!("{path}/") }
 }
 
 fn tail_of(words: &[&str]) -> Result<Request, String> {
@@ -83,8 +89,8 @@ mod tests {
     #[test]
     fn requests_are_read() {
         assert_eq!(request_of("status"), Ok(Request::Status(false)));
-        assert_eq!(request_of("which pool"), Ok(Request::Which("pool/".into())));
-        assert_eq!(request_of("count /"), Ok(Request::Count(String::new())));
+        assert_eq!(request_of("which pool"), Ok(Request::Which("pool".into())));
+        assert_eq!(request_of("count /"), Ok(Request::Count("/".into())));
         assert_eq!(request_of(" stop  pool/a "), Ok(Request::Stop("pool/a".into())));
         assert_eq!(request_of("tail 5 -f"), Ok(Request::Tail(5, true)));
         assert_eq!(request_of("tail"), Ok(Request::Tail(20, false)));

@@ -3,7 +3,7 @@
 use crate::daemon::Daemon;
 use crate::live::{Live, Stage};
 use crate::log::quoted;
-use otp_embed::{Child, ChildState, Phase, Supervisor};
+use otp_embed::{Child, ChildLine, ChildProcess, ChildState, Phase, Supervisor, Tree};
 use std::fmt::Write;
 
 /// The column in which what stands behind the names begins.
@@ -138,6 +138,21 @@ fn add_children(daemon: &mut Daemon, supervisor: u32, level: usize, text: &mut S
     }
 }
 
+/// What `which_children` would answer, a line for each child.
+pub fn which(tree: &mut Tree, supervisor: u32) -> String {
+    let line = |child: Child| ChildLine {
+        id: child.id,
+        process: match (child.state, child.number) {
+            (ChildState::Restarting, _) => ChildProcess::Restarting,
+            (ChildState::Undefined, _) | (_, None) => ChildProcess::Undefined,
+            (_, Some(number)) => ChildProcess::Running(number),
+        },
+        kind: child.spec.kind,
+        modules: child.spec.modules,
+    };
+    tree.children(supervisor).unwrap_or_default().into_iter().map(|child| format!("{}\n", line(child))).collect()
+}
+
 fn name_of(child: &Child) -> String {
     match (child.id, child.number) {
         (Some(id), _) => id.to_string(),
@@ -213,7 +228,8 @@ fn add_child_json(daemon: &mut Daemon, child: &Child, text: &mut String) {
 
 #[cfg(test)]
 mod tests {
-    use super::span;
+    use super::{span, which};
+    use otp_embed::{Answer, Note, Order, Reason, Tree};
 
     #[test]
     fn spans_have_two_units_at_the_most() {
@@ -221,6 +237,39 @@ mod tests {
             [(0, "0.0 s"), (1_250, "1.2 s"), (61_000, "1 min 1 s"), (3_660_000, "1 h 1 min"), (90_000_000, "1 d 1 h")]
         {
             assert_eq!(span(milliseconds), text);
+        }
+    }
+
+    #[test]
+    fn which_says_what_the_call_would() {
+        let text = "[[child]]\nid = \"a\"\nstart = \"a\"\nmodules = [\"x\", \"y\"]\n[[child]]\nid = \"t\"\nstart = \"a\"\nrestart = \"temporary\"\n\
+                    [[child]]\nid = \"u\"\nstart = \"a\"\nrestart = \"transient\"\ntype = \"supervisor\"\nmodules = \"dynamic\"\n[[child]]\nid = \"s\"\nstart = \"s\"\n\
+                    [child.tree]\nstrategy = \"simple_one_for_one\"\n[[child.tree.child]]\nid = \"w\"\nstart = \"w\"\n";
+        let mut tree = Tree::open(text).unwrap();
+        let serve = |tree: &mut Tree| {
+            let mut answers = Vec::new();
+            while let Some(order) = tree.next_order().unwrap() {
+                match order {
+                    Order::Start(process) => tree.note(0, process.supervisor, Note::Up(process.number)).unwrap(),
+                    Order::Reply(reply) => answers.push(reply.answer),
+                    _ => {}
+                }
+            }
+            answers
+        };
+        serve(&mut tree);
+        tree.note(0, 0, Note::Exit(3, Reason::Normal)).unwrap();
+        for _ in 0..3 {
+            tree.start_dynamic(0, 1).unwrap();
+        }
+        serve(&mut tree);
+        for supervisor in 0..2 {
+            tree.which_children(0, supervisor).unwrap();
+            let answers = serve(&mut tree);
+            let Some(Answer::Which(lines)) = answers.first() else { panic!("{answers:?}") };
+            let told: String = lines.iter().map(|line| format!("{line}\n")).collect();
+            assert!(told.lines().count() >= 3, "{told}");
+            assert_eq!(which(&mut tree, supervisor), told);
         }
     }
 }

@@ -1,9 +1,13 @@
 //! The words that the program is given.
 
 use crate::control::usual_folder;
-use crate::request;
+use crate::help;
+use crate::near;
+use crate::request::{self, Request};
+use std::collections::BTreeMap;
 use std::ffi::OsString;
 use std::path::PathBuf;
+use std::time::Duration;
 
 /// What is to be done.
 #[derive(Clone, Debug, PartialEq, Eq)]
@@ -14,10 +18,23 @@ pub enum Words {
     Check(PathBuf, PathBuf),
     /// Play a log again: its last run, or the one of this number.
     Replay(PathBuf, PathBuf, Option<usize>),
-    /// Ask a daemon, which has this control folder, for something.
-    Ctl(PathBuf, String),
+    /// Ask a daemon for something.
+    Ctl(Ctl),
     /// Print this text.
     Print(String),
+}
+
+/// What is asked of a daemon.
+#[derive(Clone, Debug, PartialEq, Eq)]
+pub struct Ctl {
+    /// Its control folder, if it was named.
+    pub folder: Option<PathBuf>,
+    /// The request.
+    pub line: String,
+    /// The answer goes on until somebody ends it.
+    pub goes_on: bool,
+    /// How long it is waited for.
+    pub within: Option<Duration>,
 }
 
 /// How a tree is run.
@@ -35,73 +52,148 @@ pub struct Run {
     pub is_json: bool,
 }
 
-const HELP: &str = "\
-otp-procs: supervises real processes by the rules of OTP's supervisor
+/// The flags, and the commands that have them.
+const FLAGS: [(&str, &[&str]); 6] = [
+    ("--log", &["run"]),
+    ("--json", &["run"]),
+    ("--no-control", &["run"]),
+    ("--control", &["run", "ctl"]),
+    ("--run", &["replay"]),
+    ("--within", &["ctl"]),
+];
 
-  otp-procs run TREE COMMANDS [--log FILE] [--json] [--control FOLDER | --no-control]
-  otp-procs check TREE COMMANDS       are both files as they should be, and the programs there?
-  otp-procs replay TREE LOG [--run N] does a log (--json) have the orders that the rules give? Its last run, or run N
-  otp-procs ctl [--control FOLDER] REQUEST
+/// How long the answer of a question is waited for.
+const QUESTION: Duration = Duration::from_secs(10);
 
-TREE is a tree file, COMMANDS says what each start word runs. TERM or INT shuts the tree down in order, a second
-one kills all; HUP opens the log's file anew. REQUEST is one of:
+/// The words, sorted.
+#[derive(Default)]
+struct Sorted {
+    plain: Vec<OsString>,
+    flags: BTreeMap<&'static str, OsString>,
+    asks_help: bool,
+    asks_version: bool,
+}
 
-";
+impl Sorted {
+    fn verb(&self) -> Option<&str> {
+        self.plain.first()?.to_str()
+    }
+
+    fn file(&mut self, flag: &str) -> Option<PathBuf> {
+        self.flags.remove(flag).map(PathBuf::from)
+    }
+
+    fn text(&mut self, flag: &str) -> Option<String> {
+        self.flags.remove(flag).map(|text| text.to_string_lossy().into_owned())
+    }
+}
+
+fn sort(words: impl Iterator<Item = OsString>) -> Result<Sorted, String> {
+    let mut sorted = Sorted::default();
+    let mut words = words;
+    while let Some(word) = words.next() {
+        let text = word.to_str().unwrap_or_default();
+        // Of the words behind `ctl` those of the request are the daemon's.
+        let is_asked = sorted.verb() == Some("ctl") && (text == "--json" || sorted.plain.len() > 1);
+        match FLAGS.iter().find(|(flag, _)| *flag == text) {
+            _ if matches!(text, "--help" | "-h") => sorted.asks_help = true,
+            _ if text == "--version" => sorted.asks_version = true,
+            Some((flag @ ("--json" | "--no-control"), _)) if !is_asked => drop(sorted.flags.insert(flag, word)),
+            Some((flag, _)) if *flag != "--json" => {
+                let value = words.next().ok_or(format!("{flag} wants a word behind it; {}", more(sorted.verb())))?;
+                sorted.flags.insert(flag, value);
+            }
+            None if text.starts_with("--") && !is_asked => {
+                let near = near::question(text, FLAGS.iter().map(|(flag, _)| *flag));
+                return Err(format!("there is no flag {text}{near}; {}", more(sorted.verb())));
+            }
+            _ => sorted.plain.push(word),
+        }
+    }
+    Ok(sorted)
+}
+
+fn more(verb: Option<&str>) -> String {
+    match verb {
+        Some(verb) => format!("otp-procs {verb} --help tells more"),
+        None => "otp-procs --help tells more".to_string(),
+    }
+}
 
 /// What the words mean, or why they mean nothing.
 pub fn read(words: impl Iterator<Item = OsString>) -> Result<Words, String> {
-    let mut plain: Vec<OsString> = Vec::new();
-    let (mut control, mut log, mut is_json, mut no_control, mut run) = (None, None, false, false, None);
-    let mut words = words.peekable();
-    while let Some(word) = words.next() {
-        // What stands behind `ctl` is the request's, but for the folder.
-        let is_ctl = plain.first().is_some_and(|first| first == "ctl");
-        let mut file = || words.next().map(PathBuf::from).ok_or(format!("{} wants a path behind it", word.display()));
-        match word.to_str() {
-            Some("--control") => control = Some(file()?),
-            Some("--help" | "-h") => {
-                return Ok(Words::Print(format!("{HELP}{}\n", request::WORDS)));
-            }
-            Some("--version") => {
-                return Ok(Words::Print(format!("otp-procs {}\n", env!("CARGO_PKG_VERSION"))));
-            }
-            Some("--log") if !is_ctl => log = Some(file()?),
-            Some("--run") if !is_ctl => run = Some(file()?),
-            Some("--json") if !is_ctl => is_json = true,
-            Some("--no-control") if !is_ctl => no_control = true,
-            Some(flag) if flag.starts_with("--") && !is_ctl => {
-                return Err(format!("there is no flag {flag}"));
-            }
-            _ => plain.push(word),
+    let mut sorted = sort(words)?;
+    if sorted.asks_help {
+        return Ok(Words::Print(help::of(sorted.verb())));
+    }
+    if sorted.asks_version {
+        let (own, library) = (env!("CARGO_PKG_VERSION"), env!("OTP_LIBRARY_SUM"));
+        return Ok(Words::Print(format!("otp-procs {own}, library {library}\n")));
+    }
+    let verb = sorted.verb().unwrap_or_default().to_string();
+    for flag in sorted.flags.keys() {
+        let owners = FLAGS.iter().find(|(known, _)| known == flag).map_or(&[][..], |(_, owners)| owners);
+        if !owners.contains(&verb.as_str()) && !verb.is_empty() {
+            return Err(format!("{verb} has no flag {flag}; {}", more(Some(&verb))));
         }
     }
-    let mut plain = plain.into_iter();
-    let verb = plain.next().and_then(|verb| verb.into_string().ok()).unwrap_or_default();
     if verb == "ctl" {
-        let words: Option<Vec<String>> = plain.map(|word| word.into_string().ok()).collect();
-        let line = words.ok_or("a request is text")?.join(" ");
-        request::request_of(&line)?;
-        return Ok(Words::Ctl(control.unwrap_or_else(usual_folder), line));
+        return ctl_of(&mut sorted);
     }
-    let (first, second, more) = (plain.next().map(PathBuf::from), plain.next().map(PathBuf::from), plain.next());
-    match (verb.as_str(), first, second, more) {
+    let mut files = sorted.plain.drain(..).skip(1).map(PathBuf::from);
+    let (first, second, more_files) = (files.next(), files.next(), files.next());
+    drop(files);
+    match (verb.as_str(), first, second, more_files) {
         ("run", Some(tree), Some(commands), None) => {
+            let (is_json, no_control) =
+                (sorted.flags.contains_key("--json"), sorted.flags.contains_key("--no-control"));
+            let (control, log) = (sorted.file("--control"), sorted.file("--log"));
+            if no_control && control.is_some() {
+                return Err(format!("--control and --no-control: say one of them; {}", more(Some("run"))));
+            }
             let control = if no_control { None } else { Some(control.unwrap_or_else(usual_folder)) };
             Ok(Words::Run(Run { tree, commands, control, log, is_json }))
         }
         ("check", Some(tree), Some(commands), None) => Ok(Words::Check(tree, commands)),
         ("replay", Some(tree), Some(log), None) => {
-            let number =
-                run.map(|number: PathBuf| number.to_str().and_then(|number| number.parse().ok()).ok_or(number));
+            let number = sorted.text("--run").map(|number| number.parse().map_err(|_| number));
             match number.transpose() {
                 Ok(number) => Ok(Words::Replay(tree, log, number)),
-                Err(other) => Err(format!("--run wants the number of a run, from 1, and not {}", other.display())),
+                Err(other) => Err(format!("--run wants the number of a run, from 1, and not {other}")),
             }
         }
-        ("run" | "check", ..) => Err(format!("{verb} wants two files: TREE COMMANDS")),
-        ("replay", ..) => Err("replay wants two files: TREE LOG".to_string()),
-        _ => Err("say run, check, replay or ctl; otp-procs --help tells more".to_string()),
+        ("run" | "check", ..) => Err(format!("{verb} wants two files: TREE COMMANDS; {}", more(Some(&verb)))),
+        ("replay", ..) => Err(format!("replay wants two files: TREE LOG; {}", more(Some("replay")))),
+        _ => Err(help::no_command(&verb)),
     }
+}
+
+fn ctl_of(sorted: &mut Sorted) -> Result<Words, String> {
+    let within = sorted.text("--within").map(|time| time_of(&time).ok_or(time)).transpose();
+    let within = within.map_err(|time| format!("--within wants a time such as 500ms, 5s, 2m or 1h, and not {time}"))?;
+    let folder = sorted.file("--control");
+    let words: Option<Vec<String>> = sorted.plain.drain(..).skip(1).map(|word| word.into_string().ok()).collect();
+    let line = words.ok_or("a request is text")?.join(" ");
+    let request = request::request_of(&line)?;
+    let within = within.or(request.is_question().then_some(QUESTION));
+    Ok(Words::Ctl(Ctl { folder, line, goes_on: matches!(request, Request::Tail(_, true)), within }))
+}
+
+/// A time: a whole number of milliseconds, or one with its unit.
+fn time_of(text: &str) -> Option<Duration> {
+    let digits = text.trim_end_matches(|c: char| c.is_ascii_alphabetic());
+    let unit = match &text[digits.len()..] {
+        "" | "ms" => 1,
+        "s" => 1_000,
+        "m" => 60_000,
+        "h" => 3_600_000,
+        _ => return None,
+    };
+    digits
+        .parse::<u32>()
+        .ok()
+        .filter(|number| *number > 0)
+        .map(|number| Duration::from_millis(u64::from(number) * unit))
 }
 
 #[cfg(test)]
@@ -117,11 +209,52 @@ mod tests {
         let Ok(Words::Run(run)) = of("run --json t c --log l --control f") else { panic!("no run") };
         assert_eq!((run.is_json, run.log, run.control), (true, Some("l".into()), Some("f".into())));
         assert!(matches!(of("run t c --no-control"), Ok(Words::Run(Run { control: None, .. }))));
-        assert_eq!(of("ctl --control f tail 5 -f"), Ok(Words::Ctl("f".into(), "tail 5 -f".into())));
-        assert_eq!(of("ctl --control f status --json"), Ok(Words::Ctl("f".into(), "status --json".into())));
-        assert!(matches!(of("--help"), Ok(Words::Print(_))));
-        for bad in ["", "run", "run t", "run t c x", "run t c --log", "run t c --x", "ctl", "ctl x", "nonsense a b"] {
+        let ctl = |line: &str| match of(line) {
+            Ok(Words::Ctl(ctl)) => ctl,
+            other => panic!("{line}: {other:?}"),
+        };
+        let asked = ctl("ctl --control f tail 5 -f");
+        assert_eq!((asked.folder, asked.line.as_str(), asked.goes_on), (Some("f".into()), "tail 5 -f", true));
+        let asked = ctl("ctl status --json --control f --within 2m");
+        assert_eq!((asked.folder, asked.line.as_str()), (Some("f".into()), "status --json"));
+        assert_eq!(asked.within, Some(Duration::from_secs(120)));
+        assert_eq!(ctl("ctl which").within, Some(QUESTION));
+        assert_eq!((ctl("ctl stop a").within, ctl("ctl shutdown").folder), (None, None));
+        assert_eq!(of("replay t l --run 2"), Ok(Words::Replay("t".into(), "l".into(), Some(2))));
+        for bad in ["", "run", "run t c x", "run t c --log", "run t c --x", "ctl", "ctl x", "nonsense a b"] {
             assert!(of(bad).is_err(), "{bad}");
         }
+    }
+
+    #[test]
+    fn each_command_has_its_help_and_what_is_wrong_a_remedy() {
+        for command in ["run", "check", "replay", "ctl"] {
+            let Ok(Words::Print(text)) = of(&format!("{command} --help")) else { panic!("{command}") };
+            assert!(text.starts_with(&format!("otp-procs {command} ")) && text.contains("status"), "{text}");
+            assert!(text.lines().all(|line| line.len() <= 119), "{text}");
+        }
+        assert!(matches!(of("--help"), Ok(Words::Print(_))) && matches!(of("ctl stop -h"), Ok(Words::Print(_))));
+        for (line, wanted) in [
+            ("rnu t c", "did you mean run?"),
+            ("ctl satus", "did you mean status?"),
+            ("ctl shutdonw", "did you mean shutdown?"),
+            ("run t c --jsno", "did you mean --json?"),
+            ("check t c --json", "check has no flag --json"),
+            ("run t c --within 5s", "run has no flag --within"),
+            ("ctl --within soon status", "such as 500ms"),
+            ("run t c --no-control --control f", "say one of them"),
+            ("run t", "otp-procs run --help tells more"),
+            ("replay t l --run x", "from 1"),
+        ] {
+            let told = of(line).unwrap_err();
+            assert!(told.contains(wanted), "{line}: {told}");
+        }
+    }
+
+    #[test]
+    fn times_have_units() {
+        let times = ["500", "500ms", "5s", "2m", "1h", "0", "5x", "s", "-1s", "", "1.5s"].map(time_of);
+        let wanted = [500, 500, 5_000, 120_000, 3_600_000].map(|time| Some(Duration::from_millis(time)));
+        assert_eq!((&times[..5], times[5..].iter().all(Option::is_none)), (&wanted[..], true));
     }
 }
