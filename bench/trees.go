@@ -1,7 +1,8 @@
 // A tree of supervisors in Go, in the shape of the bench of trees: 64 supervisors, each a goroutine that starts its workers one
 // after the other, each a goroutine that says when it is up.
-// go build -o trees trees.go; trees full THREADS COUNT starts and stops trees of 63 supervisors with 256 workers each until so
-// many workers were started; trees storm THREADS COUNT has 63 supervisors with a worker each that crashes at once, and counts
+// go build -o trees trees.go; trees serial THREADS COUNT starts and stops trees of 63 supervisors with 256 workers each until so
+// many workers were started: one supervisor after the other, as OTP's rules say, and in reverse order to stop them; trees full does
+// so with all supervisors side by side, which OTP's rules forbid; trees storm THREADS COUNT has 63 supervisors with a worker each that crashes at once, and counts
 // restarts. It prints the nanoseconds that took. trees idle THREADS CHILDREN starts a tree of so many workers each, says "up", and
 // sleeps until it is ended.
 package main
@@ -67,6 +68,37 @@ func full(count int) {
 	}
 }
 
+// A supervisor that runs.
+type running struct {
+	stop  chan struct{}
+	ended *sync.WaitGroup
+}
+
+// Starts a supervisor, which is up once its workers are.
+func startSupervisor() running {
+	var up, ended sync.WaitGroup
+	up.Add(1)
+	ended.Add(1)
+	stop := make(chan struct{})
+	go supervise(children, &up, stop, &ended)
+	up.Wait()
+	return running{stop, &ended}
+}
+
+// The next supervisor starts once the one before is up, and is stopped before it: at each moment one start or stop is possible.
+func serial(count int) {
+	for started := 0; started < count; started += supervisors * children {
+		tree := make([]running, supervisors)
+		for place := range tree {
+			tree[place] = startSupervisor()
+		}
+		for place := supervisors - 1; place >= 0; place-- {
+			close(tree[place].stop)
+			tree[place].ended.Wait()
+		}
+	}
+}
+
 // A tree to which nothing happens.
 func idle(children int) {
 	stop := make(chan struct{})
@@ -106,6 +138,8 @@ func main() {
 	begin := time.Now()
 	if os.Args[1] == "idle" {
 		idle(count)
+	} else if os.Args[1] == "serial" {
+		serial(count)
 	} else if os.Args[1] == "full" {
 		full(count)
 	} else {

@@ -2,12 +2,16 @@
 _otp() {
     local word=${COMP_WORDS[COMP_CWORD]} command=${COMP_WORDS[1]-} options=""
     if [ "$COMP_CWORD" = 1 ]; then
-        COMPREPLY=($(compgen -W "check diff limits replay run shutdown sim suggest tree try help --help --version" -- "$word"))
+        COMPREPLY=($(compgen -W "check diff import limits replay run shutdown sim suggest tree try help --help --version" -- "$word"))
         return
     fi
+    case ${COMP_WORDS[COMP_CWORD-1]} in
+        --clock) COMPREPLY=($(compgen -W "milliseconds seconds" -- "$word")); return ;;
+    esac
     case $command in
         check) options="--run --all --json --help" ;;
         diff) options="--help" ;;
+        import) options="--commands --help" ;;
         limits) options="--child --table --each --json --html --help" ;;
         replay) options="--unmatched --timeline --quiet --clock --width --help" ;;
         run) options="--schedulers --turns --counts --tree --why --for --grace --log --json --help" ;;
@@ -16,7 +20,7 @@ _otp() {
         suggest) options="--child --every --help" ;;
         tree) options="--html --help" ;;
         try) options="--prompt --timeline --quiet --clock --width --json --html --help" ;;
-        help) COMPREPLY=($(compgen -W "check diff limits replay run shutdown sim suggest tree try script lines" -- "$word")); return ;;
+        help) COMPREPLY=($(compgen -W "check diff import limits replay run shutdown sim suggest tree try script lines" -- "$word")); return ;;
     esac
     case $word in
         -*) COMPREPLY=($(compgen -W "$options" -- "$word")) ;;

@@ -106,7 +106,7 @@ CHANGES = [
       (FILE_VALUE, "[first, second, third, fourth] =>", "name_at(fourth)?",
        "if ON {\n                    fourth.as_str().and_then(|text| Name::new(text.as_bytes())).unwrap_or(name_at(first)?)\n"
        "                } else {\n                    name_at(fourth)?\n                }")]),
-    ("ids need not be unique", [(CHECK, "fn fault_at", "if is_duplicate(spec, earlier)", "if !ON && is_duplicate(spec, earlier)")]),
+    ("ids need not be unique", [(CHECK, "fn fault_at", "if repeats(spec, earlier, may_repeat)", "if !ON && repeats(spec, earlier, may_repeat)")]),
     ("a significant child may be permanent", [(CHECK, "fn fault_at", "if spec.significant && spec.restart.is_permanent()", "if !ON && spec.significant && spec.restart.is_permanent()")]),
     ("significant under never is told before permanent",
      [(CHECK, "fn fault_at", "spec.restart.is_permanent()", "spec.restart.is_permanent() && !(ON && is_never(auto_shutdown))")]),

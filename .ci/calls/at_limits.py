@@ -26,6 +26,7 @@ def calls(make):
     yield too_long_line(sim)
     yield bytes_that_are_no_text(make)
     yield from large_files(make)
+    yield from strange_names(make)
     yield from check_at_limits(make)
     yield starts_beside_busy_ones(make)
 
@@ -145,7 +146,9 @@ def large_files(make):
     for size, status in ((1 << 20, 0), ((1 << 20) + 1, 1)):
         tree = TREE.encode().ljust(size, b"\n")
         for line in ("check tree", "tree tree", "try tree", "limits tree", "shutdown tree", "suggest tree --child a --every 1h", "diff tree tree"):
-            call = make(f"large_files, {size} bytes", line.split(), {"tree": tree}, status=status)
+            # Without a line of a script nothing is played, which has a status of its own.
+            ends = 8 if line == "try tree" and not status else status
+            call = make(f"large_files, {size} bytes", line.split(), {"tree": tree}, status=ends)
             call.how = {"shows": "part", "tells": "part"}
             # What `check` finds is what it writes.
             if status and line == "check tree":
@@ -161,6 +164,14 @@ def large_files(make):
         call = make(f"long_logs, {size} bytes", ["replay", "tree", "log"], {"tree": TREE.encode(), "log": log})
         call.how = {"shows": "part"}
         yield call
+
+
+def strange_names(make):
+    """What would move the cursor in the name of a file is escaped."""
+    name = "a\x1b[31m\n\u202e.toml"
+    shown = b"a\\u{1b}[31m\\n\\u{202e}.toml"
+    yield make("strange_names", ["check", name], {}, shows=shown + b": can't be read: there is no such file\n", status=1)
+    yield make("strange_names", ["check", name], {name: TREE.encode()}, shows=shown + b": a lawful tree\n")
 
 
 def check_at_limits(make):

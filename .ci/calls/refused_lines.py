@@ -67,7 +67,7 @@ SCRIPTS = {
         "every 2s 3 time stop",
     ],
     "a child is missing: write its id, or a process number like #3": ["crash", "hang  ", "sub/ exit", "crash # a"],
-    "not a child: write its id, or a process number like #3": ["crash sub/"],
+    "not a child: write its id, or a process number like #3, and a space behind it": ["crash sub/"],
     "a child's id is missing: write 1 to 32 bytes of a-z A-Z 0-9 _ - .": ["fail", "ignore # a"],
     "not a child's id: write 1 to 32 bytes of a-z A-Z 0-9 _ - .": ["fail #1"],
     "a reason is missing: write one like normal, shutdown, kill or error:TEXT": ["exit a"],
@@ -81,7 +81,7 @@ SCRIPTS = {
         "hang a now",
         "stop #3",
     ],
-    "this call has other words behind it: docs/FORMATS.md": ["get", "which all", "start x y", "restart pool/sub/x/", "count  #3 #"],
+    "other words stand behind this call; otp help script shows its form": ["get", "which all", "start x y", "restart pool/sub/x/", "count  #3 #"],
     "unknown word: did you mean which?": ["which#"],
     "unknown word: did you mean restart?": ["restrat x"],
 }

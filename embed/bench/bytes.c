@@ -11,7 +11,7 @@ static const uint8_t *none = (const uint8_t *)"x";
 static uint64_t serve(otp_tree *tree, uint64_t reading, uint64_t last) {
     otp_order order;
     while (otp_next(tree, &order) == OTP_OK)
-        if (order.kind == OTP_ORDER_START) otp_note(tree, reading, order.supervisor, OTP_UP, last = order.number, 0, none, 0);
+        if (order.kind == OTP_ORDER_START) otp_note(tree, reading, order.supervisor, OTP_NOTE_UP, last = order.number, 0, none, 0);
     return last;
 }
 
@@ -25,7 +25,7 @@ static void measure(int children) {
     uint64_t last = serve(&tree, 0, 0);
     size_t opened = mallinfo2().uordblks, most = 0;
     for (uint64_t n = 1; n <= 100000; n++) {
-        otp_note(&tree, n * 10, 0, OTP_EXIT, last, OTP_ERROR, none, 1);
+        otp_note(&tree, n * 10, 0, OTP_NOTE_EXIT, last, OTP_REASON_ERROR, none, 1);
         last = serve(&tree, n * 10, last);
         size_t now = mallinfo2().uordblks;
         if (now > most) most = now;

@@ -2,6 +2,7 @@
  * compares them with its own declarations, and embed/header with those of the library's source. */
 #include "otp.h"
 #include <stdio.h>
+#include <string.h>
 
 #define SIZE(type) printf(#type " %zu\n", sizeof(type))
 #define AT(type, field) printf(#type "." #field " %zu\n", offsetof(type, field))
@@ -33,17 +34,22 @@ int main(void) {
     AT(otp_fault, text_len); AT(otp_fault, text);
     WORD(OTP_OK); WORD(OTP_NONE); WORD(OTP_MEMORY); WORD(OTP_FULL); WORD(OTP_SPENT); WORD(OTP_BAD_READING);
     WORD(OTP_BAD_TREE); WORD(OTP_NO_SUPERVISOR); WORD(OTP_NESTED);
-    WORD(OTP_PERMANENT); WORD(OTP_TRANSIENT); WORD(OTP_TEMPORARY); WORD(OTP_WORKER); WORD(OTP_SUPERVISOR);
-    WORD(OTP_ONE_FOR_ONE); WORD(OTP_ONE_FOR_ALL); WORD(OTP_REST_FOR_ONE); WORD(OTP_SIMPLE_ONE_FOR_ONE);
-    WORD(OTP_NEVER); WORD(OTP_ANY_SIGNIFICANT); WORD(OTP_ALL_SIGNIFICANT);
+    WORD(OTP_RESTART_PERMANENT); WORD(OTP_RESTART_TRANSIENT); WORD(OTP_RESTART_TEMPORARY); WORD(OTP_TYPE_WORKER); WORD(OTP_TYPE_SUPERVISOR);
+    WORD(OTP_STRATEGY_ONE_FOR_ONE); WORD(OTP_STRATEGY_ONE_FOR_ALL); WORD(OTP_STRATEGY_REST_FOR_ONE); WORD(OTP_STRATEGY_SIMPLE_ONE_FOR_ONE);
+    WORD(OTP_AUTO_SHUTDOWN_NEVER); WORD(OTP_AUTO_SHUTDOWN_ANY_SIGNIFICANT); WORD(OTP_AUTO_SHUTDOWN_ALL_SIGNIFICANT);
     WORD(OTP_CHILD_UNDEFINED); WORD(OTP_CHILD_STARTING); WORD(OTP_CHILD_UP); WORD(OTP_CHILD_ASKED); WORD(OTP_CHILD_KILLED);
-    WORD(OTP_CHILD_RESTARTING); WORD(OTP_UNOPENED); WORD(OTP_RUNS); WORD(OTP_ENDED);
-    WORD(OTP_INTENSITY); WORD(OTP_SIGNIFICANT); WORD(OTP_ASKED); WORD(OTP_INIT_FAILED);
-    WORD(OTP_NORMAL); WORD(OTP_SHUTDOWN); WORD(OTP_SHUTDOWN_WITH); WORD(OTP_KILL); WORD(OTP_KILLED); WORD(OTP_NOPROC);
-    WORD(OTP_ERROR); WORD(OTP_UP); WORD(OTP_IGNORED); WORD(OTP_FAILED); WORD(OTP_EXIT);
+    WORD(OTP_CHILD_RESTARTING); WORD(OTP_PHASE_UNOPENED); WORD(OTP_PHASE_RUNS); WORD(OTP_PHASE_ENDED);
+    WORD(OTP_CAUSE_INTENSITY); WORD(OTP_CAUSE_SIGNIFICANT); WORD(OTP_CAUSE_ASKED); WORD(OTP_CAUSE_INIT_FAILED);
+    WORD(OTP_REASON_NORMAL); WORD(OTP_REASON_SHUTDOWN); WORD(OTP_REASON_SHUTDOWN_WITH); WORD(OTP_REASON_KILL); WORD(OTP_REASON_KILLED); WORD(OTP_REASON_NOPROC);
+    WORD(OTP_REASON_ERROR); WORD(OTP_NOTE_UP); WORD(OTP_NOTE_IGNORED); WORD(OTP_NOTE_FAILED); WORD(OTP_NOTE_EXIT);
     /* The limits: what the header says, and what the library answers. */
     const uint64_t limits[] = {0, OTP_NAME_SIZE, OTP_TEXT_SIZE, OTP_FAULT_SIZE, OTP_MAX_CHILDREN, OTP_MAX_TABLES, OTP_MAX_READING};
     for (uint32_t kind = OTP_LIMIT_NAME_SIZE; kind <= OTP_LIMIT_READING; kind++)
         if (otp_limit(kind) != limits[kind]) return fprintf(stderr, "limit %u differs\n", kind), 1;
+    if (otp_version() != OTP_VERSION_NUMBER || !otp_fits()) return fprintf(stderr, "the versions differ\n"), 1;
+    /* Each status has a text of its own. */
+    for (uint32_t one = OTP_OK; one <= OTP_NESTED; one++)
+        for (uint32_t other = one + 1; other <= OTP_NESTED + 1; other++)
+            if (!strcmp(otp_status_text(one), otp_status_text(other))) return fprintf(stderr, "status %u has no text\n", one), 1;
     return otp_limit(0) != 0 || otp_limit(OTP_LIMIT_EVENTS) == 0;
 }

@@ -49,10 +49,10 @@ static void on_an_empty_handle(otp_tree *tree) {
     otp_spec given = {0};
     fill();
     WANT(OTP_CLOSED, otp_tick(tree, 0));
-    WANT(OTP_CLOSED, otp_note(tree, 0, 0, OTP_UP, 1, 0, none, 0));
+    WANT(OTP_CLOSED, otp_note(tree, 0, 0, OTP_NOTE_UP, 1, 0, none, 0));
     WANT(OTP_CLOSED, otp_stop(tree, 0));
     WANT(OTP_CLOSED, otp_start_child(tree, 0, 0, &given, &number));
-    WANT(OTP_CLOSED, otp_call(tree, 0, 0, OTP_WHICH_CHILDREN, &id, 0, &number));
+    WANT(OTP_CLOSED, otp_call(tree, 0, 0, OTP_CALL_WHICH_CHILDREN, &id, 0, &number));
     WANT(OTP_CLOSED, otp_next(tree, &order));
     WANT(OTP_CLOSED, otp_answer_of(tree, &answer));
     WANT(OTP_CLOSED, otp_answer_line(tree, 0, &row));
@@ -68,28 +68,28 @@ static void on_an_empty_handle(otp_tree *tree) {
 static void notes(otp_tree *tree) {
     uint8_t spaced[] = "a b", longest[65];
     memset(longest, 'x', sizeof longest);
-    WANT(OTP_BAD_KIND, otp_note(tree, 1, 0, 0, 1, OTP_NORMAL, none, 0));
-    WANT(OTP_BAD_KIND, otp_note(tree, 1, 0, 5, 1, OTP_NORMAL, none, 0));
-    WANT(OTP_BAD_KIND, otp_note(tree, 1, 0, OTP_EXIT, 1, 0, none, 1));
-    WANT(OTP_BAD_KIND, otp_note(tree, 1, 0, OTP_FAILED, 1, 8, none, 1));
-    WANT(OTP_BAD_TEXT, otp_note(tree, 1, 0, OTP_EXIT, 1, OTP_ERROR, none, 0));
-    WANT(OTP_BAD_TEXT, otp_note(tree, 1, 0, OTP_EXIT, 1, OTP_ERROR, spaced, 3));
-    WANT(OTP_BAD_TEXT, otp_note(tree, 1, 0, OTP_EXIT, 1, OTP_SHUTDOWN_WITH, longest, 65));
-    WANT(OTP_NO_SUPERVISOR, otp_note(tree, 1, 2, OTP_UP, 1, 0, none, 0));
-    WANT(OTP_NO_SUPERVISOR, otp_note(tree, 1, UINT32_MAX, OTP_UP, 1, 0, none, 0));
+    WANT(OTP_BAD_KIND, otp_note(tree, 1, 0, 0, 1, OTP_REASON_NORMAL, none, 0));
+    WANT(OTP_BAD_KIND, otp_note(tree, 1, 0, 5, 1, OTP_REASON_NORMAL, none, 0));
+    WANT(OTP_BAD_KIND, otp_note(tree, 1, 0, OTP_NOTE_EXIT, 1, 0, none, 1));
+    WANT(OTP_BAD_KIND, otp_note(tree, 1, 0, OTP_NOTE_FAILED, 1, 8, none, 1));
+    WANT(OTP_BAD_TEXT, otp_note(tree, 1, 0, OTP_NOTE_EXIT, 1, OTP_REASON_ERROR, none, 0));
+    WANT(OTP_BAD_TEXT, otp_note(tree, 1, 0, OTP_NOTE_EXIT, 1, OTP_REASON_ERROR, spaced, 3));
+    WANT(OTP_BAD_TEXT, otp_note(tree, 1, 0, OTP_NOTE_EXIT, 1, OTP_REASON_SHUTDOWN_WITH, longest, 65));
+    WANT(OTP_NO_SUPERVISOR, otp_note(tree, 1, 2, OTP_NOTE_UP, 1, 0, none, 0));
+    WANT(OTP_NO_SUPERVISOR, otp_note(tree, 1, UINT32_MAX, OTP_NOTE_UP, 1, 0, none, 0));
 }
 
 /* A reading that is too large is refused by each call that has one, before it is looked at who is named. */
 static void readings(otp_tree *tree) {
     const uint64_t late[] = {OTP_MAX_READING + 1, UINT64_MAX};
     otp_name id = {1, "a"};
-    otp_spec spec_of_c = {OTP_PERMANENT, 0, OTP_WORKER, OTP_MILLISECONDS, 1, 0, {1, "c"}, {1, "c"}, {{0, ""}}};
+    otp_spec spec_of_c = {OTP_RESTART_PERMANENT, 0, OTP_TYPE_WORKER, OTP_SHUTDOWN_MILLISECONDS, 1, 0, {1, "c"}, {1, "c"}, {{0, ""}}};
     number = UINT64_MAX;
     for (int i = 0; i < 2; i++) {
         WANT(OTP_BAD_READING, otp_tick(tree, late[i]));
         WANT(OTP_BAD_READING, otp_stop(tree, late[i]));
-        WANT(OTP_BAD_READING, otp_note(tree, late[i], 2, OTP_EXIT, 1, OTP_NORMAL, none, 0));
-        WANT(OTP_BAD_READING, otp_call(tree, late[i], 2, OTP_WHICH_CHILDREN, &id, 0, &number));
+        WANT(OTP_BAD_READING, otp_note(tree, late[i], 2, OTP_NOTE_EXIT, 1, OTP_REASON_NORMAL, none, 0));
+        WANT(OTP_BAD_READING, otp_call(tree, late[i], 2, OTP_CALL_WHICH_CHILDREN, &id, 0, &number));
         WANT(OTP_BAD_READING, otp_start_child(tree, late[i], 2, &spec_of_c, &number));
     }
     UNTOUCHED(number);
@@ -97,12 +97,12 @@ static void readings(otp_tree *tree) {
 
 static void calls(otp_tree *tree) {
     otp_name id = {1, "a"}, long_name = {33, ""};
-    otp_spec good = {OTP_PERMANENT, 0, OTP_WORKER, OTP_MILLISECONDS, 1, 0, {1, "c"}, {1, "c"}, {{0, ""}}}, bad;
+    otp_spec good = {OTP_RESTART_PERMANENT, 0, OTP_TYPE_WORKER, OTP_SHUTDOWN_MILLISECONDS, 1, 0, {1, "c"}, {1, "c"}, {{0, ""}}}, bad;
     number = UINT64_MAX;
     WANT(OTP_BAD_KIND, otp_call(tree, 1, 0, 0, &id, 0, &number));
     WANT(OTP_BAD_KIND, otp_call(tree, 1, 0, 9, &id, 0, &number));
-    WANT(OTP_BAD_NAME, otp_call(tree, 1, 0, OTP_DELETE_CHILD, &long_name, 0, &number));
-    WANT(OTP_NO_SUPERVISOR, otp_call(tree, 1, 2, OTP_WHICH_CHILDREN, &id, 0, &number));
+    WANT(OTP_BAD_NAME, otp_call(tree, 1, 0, OTP_CALL_DELETE_CHILD, &long_name, 0, &number));
+    WANT(OTP_NO_SUPERVISOR, otp_call(tree, 1, 2, OTP_CALL_WHICH_CHILDREN, &id, 0, &number));
     WANT(OTP_NO_SUPERVISOR, otp_start_child(tree, 1, 2, &good, &number));
     bad = good, bad.restart = 0;
     WANT(OTP_BAD_KIND, otp_start_child(tree, 1, 0, &bad, &number));
@@ -145,12 +145,12 @@ int main(void) {
     UNTOUCHED(fault);
     for (int i = 0; i < 2; i++) {
         WANT(OTP_OK, otp_next(&tree, &order));
-        WANT(OTP_OK, otp_note(&tree, 1, order.supervisor, OTP_UP, order.number, 0, none, 0));
+        WANT(OTP_OK, otp_note(&tree, 1, order.supervisor, OTP_NOTE_UP, order.number, 0, none, 0));
     }
     WANT(OTP_OK, otp_next(&tree, &order));
     if (order.kind != OTP_ORDER_READY) faults++, puts("misuse has changed what is ordered");
     /* The pool is process 2 of the root: nobody tells anything of it. */
-    WANT(OTP_NESTED, otp_note(&tree, 1, 0, OTP_EXIT, 2, OTP_NORMAL, none, 0));
+    WANT(OTP_NESTED, otp_note(&tree, 1, 0, OTP_NOTE_EXIT, 2, OTP_REASON_NORMAL, none, 0));
     notes(&tree), readings(&tree), calls(&tree), looks(&tree);
     otp_close(&tree);
     on_an_empty_handle(&tree);

@@ -21,8 +21,9 @@
  * shutdown or end) is done by otp_next. So otp_deadline is right once otp_next has answered OTP_NONE.
  *
  * What a caller owes, and nothing checks: each pointer is valid and not NULL, also where its length is 0. A handle begins
- * zeroed (OTP_TREE_INIT), is never copied or written to, and is used by one call at a time. It may move to another thread
- * between two calls. A call keeps no pointer that it is given.
+ * zeroed (OTP_TREE_INIT), is never copied or written to, and is used by one call at a time, also by one that only looks: each
+ * takes the tree out of its handle and puts it back, so none takes a const one. It may move to another thread between two
+ * calls. A call keeps no pointer that it is given.
  *
  * What is answered by a status: everything else. Where a call answers neither OTP_OK nor OTP_NONE, the tree is as it was, and
  * what a call would have written is not written (otp_open's fault apart). After OTP_MEMORY the same call may be made again.
@@ -34,6 +35,13 @@
 #ifdef __cplusplus
 extern "C" {
 #endif
+
+/* ---- version: one for all that a release has (otp_version, otp_fits) ---- */
+#define OTP_VERSION_MAJOR  0
+#define OTP_VERSION_MINOR  3
+#define OTP_VERSION_PATCH  0
+#define OTP_VERSION        "0.3.0"
+#define OTP_VERSION_NUMBER ((uint32_t)OTP_VERSION_MAJOR << 16 | OTP_VERSION_MINOR << 8 | OTP_VERSION_PATCH)
 
 /* ---- limits (the library's own numbers: otp_limit) ---- */
 #define OTP_NAME_SIZE    32u
@@ -68,36 +76,41 @@ enum otp_status {
     OTP_NESTED = 13              /* otp_note: the process is a supervisor of the tree itself, of which nobody tells from outside */
 };
 
-/* ---- words; 0 is none of them ---- */
-enum otp_note_kind { OTP_UP = 1, OTP_IGNORED = 2, OTP_FAILED = 3, OTP_EXIT = 4 };
-enum otp_reason { OTP_NORMAL = 1, OTP_SHUTDOWN = 2, OTP_SHUTDOWN_WITH = 3, OTP_KILL = 4, OTP_KILLED = 5, OTP_NOPROC = 6,
-                  OTP_ERROR = 7 };         /* OTP_SHUTDOWN_WITH and OTP_ERROR have a text */
+/* ---- words; 0 is none of them. Each word begins with its enum's name, or has a prefix of that enum alone ---- */
+enum otp_note_kind { OTP_NOTE_UP = 1, OTP_NOTE_IGNORED = 2, OTP_NOTE_FAILED = 3, OTP_NOTE_EXIT = 4 };
+enum otp_reason { OTP_REASON_NORMAL = 1, OTP_REASON_SHUTDOWN = 2, OTP_REASON_SHUTDOWN_WITH = 3, OTP_REASON_KILL = 4,
+                  OTP_REASON_KILLED = 5, OTP_REASON_NOPROC = 6,
+                  OTP_REASON_ERROR = 7 };  /* OTP_REASON_SHUTDOWN_WITH and OTP_REASON_ERROR have a text */
 enum otp_order_kind { OTP_ORDER_START = 1, OTP_ORDER_ASK = 2, OTP_ORDER_KILL = 3, OTP_ORDER_REPLY = 4, OTP_ORDER_READY = 5,
                       OTP_ORDER_END = 6 };
-enum otp_cause { OTP_INTENSITY = 1, OTP_SIGNIFICANT = 2, OTP_ASKED = 3, OTP_INIT_FAILED = 4 };
-enum otp_restart { OTP_PERMANENT = 1, OTP_TRANSIENT = 2, OTP_TEMPORARY = 3 };
-enum otp_shutdown { OTP_BRUTAL_KILL = 1, OTP_MILLISECONDS = 2, OTP_INFINITY = 3 };
-enum otp_type { OTP_WORKER = 1, OTP_SUPERVISOR = 2 };
-enum otp_modules { OTP_DYNAMIC = 5 };      /* else how many there are: 0 to 4 */
-enum otp_strategy { OTP_ONE_FOR_ONE = 1, OTP_ONE_FOR_ALL = 2, OTP_REST_FOR_ONE = 3, OTP_SIMPLE_ONE_FOR_ONE = 4 };
-enum otp_auto_shutdown { OTP_NEVER = 1, OTP_ANY_SIGNIFICANT = 2, OTP_ALL_SIGNIFICANT = 3 };
-enum otp_call_kind { OTP_START_DYNAMIC = 1, OTP_RESTART_CHILD = 2, OTP_DELETE_CHILD = 3, OTP_TERMINATE_CHILD = 4,
-                     OTP_TERMINATE_PROCESS = 5, OTP_WHICH_CHILDREN = 6, OTP_COUNT_CHILDREN = 7, OTP_GET_CHILDSPEC = 8 };
+enum otp_cause { OTP_CAUSE_INTENSITY = 1, OTP_CAUSE_SIGNIFICANT = 2, OTP_CAUSE_ASKED = 3, OTP_CAUSE_INIT_FAILED = 4 };
+enum otp_restart { OTP_RESTART_PERMANENT = 1, OTP_RESTART_TRANSIENT = 2, OTP_RESTART_TEMPORARY = 3 };
+enum otp_shutdown { OTP_SHUTDOWN_BRUTAL_KILL = 1, OTP_SHUTDOWN_MILLISECONDS = 2, OTP_SHUTDOWN_INFINITY = 3 };
+enum otp_type { OTP_TYPE_WORKER = 1, OTP_TYPE_SUPERVISOR = 2 };
+enum otp_modules { OTP_MODULES_DYNAMIC = 5 };      /* else how many there are: 0 to 4 */
+enum otp_strategy { OTP_STRATEGY_ONE_FOR_ONE = 1, OTP_STRATEGY_ONE_FOR_ALL = 2, OTP_STRATEGY_REST_FOR_ONE = 3,
+                    OTP_STRATEGY_SIMPLE_ONE_FOR_ONE = 4 };
+enum otp_auto_shutdown { OTP_AUTO_SHUTDOWN_NEVER = 1, OTP_AUTO_SHUTDOWN_ANY_SIGNIFICANT = 2,
+                         OTP_AUTO_SHUTDOWN_ALL_SIGNIFICANT = 3 };
+enum otp_call_kind { OTP_CALL_START_DYNAMIC = 1, OTP_CALL_RESTART_CHILD = 2, OTP_CALL_DELETE_CHILD = 3,
+                     OTP_CALL_TERMINATE_CHILD = 4, OTP_CALL_TERMINATE_PROCESS = 5, OTP_CALL_WHICH_CHILDREN = 6,
+                     OTP_CALL_COUNT_CHILDREN = 7, OTP_CALL_GET_CHILDSPEC = 8 };
 enum otp_answer_kind { OTP_ANSWER_OK = 1, OTP_ANSWER_PROCESS = 2, OTP_ANSWER_UNDEFINED = 3, OTP_ANSWER_REFUSED = 4,
                        OTP_ANSWER_WHICH = 5, OTP_ANSWER_COUNT = 6, OTP_ANSWER_SPEC = 7, OTP_ANSWER_NOPROC = 8 };
-enum otp_call_fault { OTP_NOT_FOUND = 1, OTP_RUNNING = 2, OTP_RESTARTING = 3, OTP_IS_SIMPLE = 4, OTP_NOT_SIMPLE = 5,
-                      OTP_ALREADY_PRESENT = 6, OTP_ALREADY_STARTED = 7, OTP_TOO_MANY_CHILDREN = 8, OTP_BAD_SPEC = 9,
-                      OTP_START_FAILED = 10 };
+enum otp_call_fault { OTP_REFUSED_NOT_FOUND = 1, OTP_REFUSED_RUNNING = 2, OTP_REFUSED_RESTARTING = 3,
+                      OTP_REFUSED_IS_SIMPLE = 4, OTP_REFUSED_NOT_SIMPLE = 5, OTP_REFUSED_ALREADY_PRESENT = 6,
+                      OTP_REFUSED_ALREADY_STARTED = 7, OTP_REFUSED_TOO_MANY_CHILDREN = 8, OTP_REFUSED_BAD_SPEC = 9,
+                      OTP_REFUSED_START_FAILED = 10 };
 enum otp_child_state { OTP_CHILD_UNDEFINED = 1, OTP_CHILD_STARTING = 2, OTP_CHILD_UP = 3, OTP_CHILD_ASKED = 4,
                        OTP_CHILD_KILLED = 5, OTP_CHILD_RESTARTING = 6 };
-enum otp_phase { OTP_UNOPENED = 1, OTP_RUNS = 2, OTP_ENDED = 3 };
+enum otp_phase { OTP_PHASE_UNOPENED = 1, OTP_PHASE_RUNS = 2, OTP_PHASE_ENDED = 3 };
 enum otp_fault_place { OTP_AT_TABLE = 1, OTP_AT_FLAG = 2, OTP_AT_CHILD = 3, OTP_AT_CHILD_KEY = 4 };
 enum otp_flag_key { OTP_KEY_STRATEGY = 1, OTP_KEY_INTENSITY = 2, OTP_KEY_PERIOD = 3, OTP_KEY_AUTO_SHUTDOWN = 4,
                     OTP_KEY_CHILD = 5 };
 enum otp_child_key { OTP_KEY_ID = 1, OTP_KEY_START = 2, OTP_KEY_RESTART = 3, OTP_KEY_SIGNIFICANT = 4, OTP_KEY_SHUTDOWN = 5,
                      OTP_KEY_TYPE = 6, OTP_KEY_MODULES = 7, OTP_KEY_TREE = 8 };
 
-/* ---- structs: plain, no pointers; a caller may copy them ---- */
+/* ---- structs: plain, no pointers; a caller may copy them. Another interface (otp_fits) may give them more fields ---- */
 
 typedef struct { uint8_t is_open; struct { void *at; } room; } otp_tree;       /* a handle: never copy this one */
 #define OTP_TREE_INIT {0, {0}}
@@ -110,36 +123,36 @@ typedef struct {                 /* a child's specification (Supervisor Behaviou
     uint32_t significant;        /* 0 or 1 */
     uint32_t type;               /* otp_type */
     uint32_t shutdown;           /* otp_shutdown */
-    uint32_t shutdown_ms;        /* of OTP_MILLISECONDS */
-    uint32_t modules;            /* how many: 0 to 4, or OTP_DYNAMIC */
+    uint32_t shutdown_ms;        /* of OTP_SHUTDOWN_MILLISECONDS */
+    uint32_t modules;            /* how many: 0 to 4, or OTP_MODULES_DYNAMIC */
     otp_name id, start;
     otp_name module[4];          /* the first `modules` of them */
 } otp_spec;
 
 typedef struct {
-    uint64_t number;             /* the process; of a reply the call; of an end by OTP_SIGNIFICANT the significant child */
+    uint64_t number;             /* the process; of a reply the call; of an end by OTP_CAUSE_SIGNIFICANT the significant child */
     uint64_t deadline;           /* of an ask, if has_deadline: at this reading the order to kill it comes */
     uint32_t kind;               /* otp_order_kind */
     uint32_t supervisor;         /* whose order: the number of its table, the root's 0, as `check` counts them */
     uint32_t has_deadline;       /* 0 or 1 */
     uint32_t reason;             /* of an end: otp_reason */
     uint32_t cause;              /* of an end: otp_cause */
-    otp_name id;                 /* the child; of an end by OTP_INIT_FAILED the child that didn't start */
+    otp_name id;                 /* the child; of an end by OTP_CAUSE_INIT_FAILED the child that didn't start */
     otp_name start;              /* of a start, ask or kill: the child's start word, as the tree file has it */
     otp_text text;               /* of an end: the reason's text */
 } otp_order;
 
 typedef struct {                 /* the answer to a call */
     uint64_t call;
-    uint64_t number;             /* OTP_ANSWER_PROCESS: the child's process; OTP_ALREADY_STARTED: the one that runs */
+    uint64_t number;             /* OTP_ANSWER_PROCESS: the child's process; OTP_REFUSED_ALREADY_STARTED: the one that runs */
     uint64_t specs, active, supervisors, workers;               /* OTP_ANSWER_COUNT */
     uint32_t kind;               /* otp_answer_kind */
     uint32_t fault;              /* OTP_ANSWER_REFUSED: otp_call_fault */
-    uint32_t spec_fault;         /* OTP_BAD_SPEC: 1 to 7, as E1 to E7 */
+    uint32_t spec_fault;         /* OTP_REFUSED_BAD_SPEC: 1 to 7, as E1 to E7 */
     uint32_t spec_key;           /* where that is 2: 1 id, 2 start, 3 modules */
-    uint32_t reason;             /* OTP_START_FAILED: otp_reason */
+    uint32_t reason;             /* OTP_REFUSED_START_FAILED: otp_reason */
     uint32_t lines;              /* OTP_ANSWER_WHICH: how many there are */
-    otp_text text;               /* OTP_START_FAILED: the reason's text */
+    otp_text text;               /* OTP_REFUSED_START_FAILED: the reason's text */
 } otp_answer;
 
 typedef struct {                 /* a line of which_children */
@@ -202,7 +215,7 @@ void otp_close(otp_tree *tree);
 uint32_t otp_tick(otp_tree *tree, uint64_t reading);
 
 /* At this reading the process `number`, whose start supervisor number `supervisor` ordered, tells this: it is up; its start
-   answered `ignore`; its start failed; or it has ended. The last two have a reason, and OTP_SHUTDOWN_WITH and OTP_ERROR a text; else `reason` and
+   answered `ignore`; its start failed; or it has ended. The last two have a reason, and OTP_REASON_SHUTDOWN_WITH and OTP_REASON_ERROR a text; else `reason` and
    the text are not looked at. A number that no child has changes nothing of the tree.
    Answers OTP_OK, OTP_CLOSED, OTP_MEMORY, OTP_FULL, OTP_SPENT, OTP_BAD_READING, OTP_BAD_KIND, OTP_BAD_TEXT, OTP_NO_SUPERVISOR,
    OTP_NESTED. */
@@ -213,14 +226,14 @@ uint32_t otp_note(otp_tree *tree, uint64_t reading, uint32_t supervisor, uint32_
 uint32_t otp_stop(otp_tree *tree, uint64_t reading);
 
 /* Asks at this reading for start_child/2 with a specification. Its answer comes with an order OTP_ORDER_REPLY of that supervisor under the
-   number `call`. A specification that the rules refuse is answered so there (OTP_BAD_SPEC); a struct that says none is not
+   number `call`. A specification that the rules refuse is answered so there (OTP_REFUSED_BAD_SPEC); a struct that says none is not
    taken: OTP_BAD_KIND or OTP_BAD_NAME.
    Answers OTP_OK, OTP_CLOSED, OTP_MEMORY, OTP_FULL, OTP_SPENT, OTP_BAD_READING, OTP_BAD_KIND, OTP_BAD_NAME,
    OTP_NO_SUPERVISOR. */
 uint32_t otp_start_child(otp_tree *tree, uint64_t reading, uint32_t supervisor, const otp_spec *spec, uint64_t *call);
 
-/* Asks at this reading for another call. `id` names the child of OTP_RESTART_CHILD, OTP_DELETE_CHILD, OTP_TERMINATE_CHILD and
-   OTP_GET_CHILDSPEC, `number` the process of OTP_TERMINATE_PROCESS; of the others neither is looked at. Answers as above. */
+/* Asks at this reading for another call. `id` names the child of OTP_CALL_RESTART_CHILD, OTP_CALL_DELETE_CHILD, OTP_CALL_TERMINATE_CHILD and
+   OTP_CALL_GET_CHILDSPEC, `number` the process of OTP_CALL_TERMINATE_PROCESS; of the others neither is looked at. Answers as above. */
 uint32_t otp_call(otp_tree *tree, uint64_t reading, uint32_t supervisor, uint32_t kind, const otp_name *id, uint64_t number,
                   uint64_t *call);
 
@@ -256,6 +269,38 @@ uint32_t otp_look_child(otp_tree *tree, uint32_t supervisor, uint32_t index, otp
 
 /* A limit of the library (otp_limit_kind); 0 for any other number. */
 uint64_t otp_limit(uint32_t kind);
+
+/* The version of the library that runs, as OTP_VERSION_NUMBER is that of this header. */
+uint32_t otp_version(void);
+
+/* Whether that library has the interface of this header. Before version 1 each minor version is another interface. Ask once, where
+   the library may be another one than the program was built with. */
+static inline int otp_fits(void) {
+    uint32_t version = otp_version();
+    return OTP_VERSION_MAJOR ? version >> 16 == OTP_VERSION_MAJOR && version >= OTP_VERSION_NUMBER
+                             : version >> 8 == OTP_VERSION_NUMBER >> 8;
+}
+
+/* What a status means, as a sentence's end; never NULL. */
+static inline const char *otp_status_text(uint32_t status) {
+    switch (status) {
+    case OTP_OK: return "done";
+    case OTP_NONE: return "there is none";
+    case OTP_CLOSED: return "the tree is closed";
+    case OTP_OPEN: return "the handle has a tree already";
+    case OTP_MEMORY: return "memory was refused; the same call may be made again";
+    case OTP_FULL: return "orders of that supervisor wait; take them, then make the call again";
+    case OTP_SPENT: return "the tree has had all the events or process numbers that there are";
+    case OTP_BAD_READING: return "the reading of the clock is too large";
+    case OTP_BAD_KIND: return "a number stands for none of its words";
+    case OTP_BAD_TEXT: return "a reason's text is not 1 to 64 visible letters of ASCII";
+    case OTP_BAD_NAME: return "a name has more than 32 bytes";
+    case OTP_BAD_TREE: return "the tree file is refused";
+    case OTP_NO_SUPERVISOR: return "no supervisor has this number";
+    case OTP_NESTED: return "that process is a supervisor of the tree itself";
+    default: return "no status of this version";
+    }
+}
 
 #ifdef __cplusplus
 }

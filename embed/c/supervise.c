@@ -39,7 +39,7 @@ static void carry_out(const otp_order *order) {
             live[count].number = order->number, live[count].supervisor = order->supervisor;
             live[count].pid = pid, live[count++].is_asked = 0;
         }
-        tell(order->supervisor, pid > 0 ? OTP_UP : OTP_FAILED, order->number, OTP_ERROR, "fork");
+        tell(order->supervisor, pid > 0 ? OTP_NOTE_UP : OTP_NOTE_FAILED, order->number, OTP_REASON_ERROR, "fork");
     }
     for (int i = 0; i < count; i++)
         if (live[i].number == order->number && (order->kind == OTP_ORDER_ASK || order->kind == OTP_ORDER_KILL)) {
@@ -51,12 +51,12 @@ static void carry_out(const otp_order *order) {
 /* A signal ended it by an error, but for the one by which it was asked, and the one that kills. */
 static void tell_exit(int place, int status) {
     int by_signal = WIFSIGNALED(status), code = by_signal ? WTERMSIG(status) : WEXITSTATUS(status);
-    uint32_t reason = code ? OTP_ERROR : OTP_NORMAL;
-    if (by_signal && code == SIGKILL) reason = OTP_KILLED;
-    if (by_signal && code == SIGTERM && live[place].is_asked) reason = OTP_SHUTDOWN;
+    uint32_t reason = code ? OTP_REASON_ERROR : OTP_REASON_NORMAL;
+    if (by_signal && code == SIGKILL) reason = OTP_REASON_KILLED;
+    if (by_signal && code == SIGTERM && live[place].is_asked) reason = OTP_REASON_SHUTDOWN;
     char text[20];
     snprintf(text, sizeof text, "%s_%d", by_signal ? "signal" : "status", code);
-    tell(live[place].supervisor, OTP_EXIT, live[place].number, reason, text);
+    tell(live[place].supervisor, OTP_NOTE_EXIT, live[place].number, reason, text);
     live[place] = live[--count];
 }
 
@@ -79,7 +79,9 @@ int main(int argc, char **argv) {
     size_t length = fread(text, 1, sizeof text, file);
     fclose(file);
     otp_fault fault;
-    if (otp_open(&tree, text, length, &fault) != OTP_OK) return fprintf(stderr, "the tree is refused\n"), 1;
+    if (!otp_fits()) return fputs("the library isn't that of otp.h\n", stderr), 1;
+    uint32_t status = otp_open(&tree, text, length, &fault);
+    if (status != OTP_OK) return fprintf(stderr, "supervise: %s\n", otp_status_text(status)), 1;
     sigset_t signals;
     sigemptyset(&signals), sigaddset(&signals, SIGCHLD), sigaddset(&signals, SIGTERM), sigprocmask(SIG_BLOCK, &signals, NULL);
     for (otp_order order = {0}; order.kind != OTP_ORDER_END;) {

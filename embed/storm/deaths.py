@@ -129,6 +129,19 @@ def killed_daemon(it):
     wait_until(lambda: f"those of the first are gone, {first}", lambda: not first & {process for process, _ in daemon.left()})
 
 
+@row("KILL of the daemon, a child of another user")
+def killed_with_user(it):
+    need(root=True)
+    daemon = it.run(child("a"), table("a", shell("echo >&3; exec sleep 1000"), ready="notify", user=NOBODY, group=NOBODY, umask="077", nice=5, limits=["nofile=64"]))
+    with open(f"/proc/{daemon.pid_of('a')}/status", encoding="utf-8") as file:
+        expect(f"Uid:\t{NOBODY}\t{NOBODY}" in file.read(), "it is another user's")
+    daemon.signal(signal.SIGKILL)
+    daemon.wait(-9)
+    daemon.none_is_left()
+    os.rename(f"{daemon.folder}/log", f"{daemon.folder}/log.1")
+    daemon.start().ready()
+
+
 @row("a child that dies in a millisecond, for ever")
 def dies_at_once(it):
     it.daemon(flags(intensity=3, period=5) + child("a"), table("a", ["false"])).start().wait(3)

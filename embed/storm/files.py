@@ -3,8 +3,10 @@
 import contextlib
 import os
 import random
+import shutil
 import signal
 import subprocess
+import sys
 import threading
 import time
 
@@ -136,6 +138,60 @@ def two_runs(it):
     wait_until("the second is ready", lambda: any(line.get("order") == "ready" for line in daemon.lines()[count:]))
 
 
+# Mounts a file system that doesn't answer, as a network's where the other end is gone, and says whether that was done. Once it is told
+# to, it answers all that nothing is there. At the end of its input it goes. Whoever is in its process group would be let through.
+SILENT = """
+import ctypes, fcntl, os, struct, sys, threading
+system, place = ctypes.CDLL(None), sys.argv[1]
+reads, writes = os.pipe()
+words = b"fd=%d,pgrp=%d,minproto=5,maxproto=5,direct" % (writes, os.getpgrp())
+print("no" if system.mount(b"silent", place.encode(), b"autofs", 0, words) else "yes", flush=True)
+def refuse(top):
+    while True:
+        fcntl.ioctl(top, 0x9361, struct.unpack_from("=iiI", os.read(reads, 4096))[2])
+for line in sys.stdin:
+    threading.Thread(target=refuse, args=(os.open(place, os.O_RDONLY),), daemon=True).start()
+system.umount2(place.encode(), 2)
+os._exit(0)
+"""
+
+
+@contextlib.contextmanager
+def silent_disk(path):
+    """A folder on a disk that doesn't answer, and what makes it answer that nothing is there."""
+    os.makedirs(path)
+    how = {"stdin": subprocess.PIPE, "stdout": subprocess.PIPE, "text": True, "start_new_session": True}
+    with subprocess.Popen([sys.executable, "-c", SILENT, path], **how) as mounted:
+        if mounted.stdout.readline() != "yes\n":
+            raise LeftOut("no file system that doesn't answer can be mounted")
+        yield f"{path}/far", lambda: print("answer", file=mounted.stdin, flush=True)
+
+
+@row("a program, and a folder, on a disk that doesn't answer")
+def silent(it):
+    need(root=True)
+    tree = child("a") + child("b", shutdown=300)
+    with silent_disk(f"{it.folder}/disk") as (far, answer):
+        words = table("b", [f"{far}/program"]), table("b", SLEEPS, folder=far), table("b", SLEEPS, env_file=f"{far}/env")
+        for word in words:
+            daemon = it.daemon(tree, table("a", SLEEPS) + word).start()
+            daemon.pid_of("b")
+            os.kill(daemon.pid_of("a"), signal.SIGKILL)
+            daemon.wait_for(lambda line: line.get("event") == "exit")
+            status, said = daemon.ctl("status")
+            expect(status == 0 and "starting" in said, f"status {status}: {said}")
+            daemon.stop()
+            daemon.none_is_left()
+        late = [it.daemon(tree, table("a", SLEEPS) + word).start() for word in words]
+        for daemon in late:
+            daemon.pid_of("b")
+        answer()
+        for daemon, reason in zip(late, ("no_command", "no_folder", "no_env_file")):
+            daemon.wait(4)
+            told = [line for line in daemon.lines() if line.get("event") == "fail"]
+            expect([line["reason"] for line in told] == [f"error:{reason}"] and told[0].get("text"), f"told was {told}")
+
+
 def mutant(chance, text):
     """A text with some bytes changed, removed, doubled, or lines moved."""
     text = bytearray(text)
@@ -171,3 +227,12 @@ def mutants(it):
             raise Fault(f"{' '.join(words)} of mutant {number} (seed {seed}): status {played.returncode}, {played.stderr[:300]}")
     with contextlib.suppress(OSError):
         os.remove(f"{daemon.folder}/mutant")
+
+
+@row("the control folder is removed, and HUP")
+def control_removed(it):
+    daemon = it.run(child("a"), table("a", SLEEPS))
+    shutil.rmtree(f"{daemon.folder}/control")
+    expect(daemon.ctl("status")[0] == 1, "it answers without a socket")
+    daemon.signal(signal.SIGHUP)
+    wait_until("it answers again", lambda: daemon.ctl("status")[0] == 0)

@@ -53,8 +53,8 @@ where
     }
 }
 
-/// The same in a session, where the tree was opened with room ([`with_growing_tree`](crate::with_growing_tree)). The start call is
-/// [`System::submit`].
+/// Adds a tree to one that runs in a session, where that was opened with room ([`with_growing_tree`](crate::with_growing_tree)).
+/// The start call is [`System::submit`].
 ///
 /// # Errors
 ///

@@ -25,7 +25,7 @@ use std::sync::Wait;
 use std::thread::Threads;
 use std::time::Clock;
 
-/// The same plans, as `otp_tree` has them. Takes no memory.
+/// These plans, as `otp_tree` has them. Takes no memory.
 fn handed_on<J: Drop, S: Drop>(
     plans: Vec<TablePlan<J, S>>,
     room: Vec<otp_tree::TablePlan<J, S>>,
@@ -140,7 +140,7 @@ where
     run_with_callers(rt, alloc, root, hands, stop, watch, callers.as_slice())
 }
 
-/// The same, with these callers: by each of them a thread calls the tree's supervisors while it runs, as
+/// Does what [`run`] does; by each of these callers a thread calls the tree's supervisors while it runs, as
 /// `supervisor:which_children` and the others do ([`Caller`]). A supervisor is called by its number, which [`TreeDraft::table_of`] says
 /// of its path; the root's is 0.
 ///
@@ -183,8 +183,8 @@ pub struct GrowingTree<J: Drop, S: Drop> {
     pub room: usize,
 }
 
-/// The same, where trees can be added while it runs ([`grow`](crate::grow)). A watch is told no path of a supervisor that was
-/// added, and its number ([`Seen`](crate::Seen)).
+/// Does what [`run_with_callers`] does with a tree to which others can be added while it runs ([`grow`](crate::grow)). Of a
+/// supervisor that was added a watch is told its number ([`Seen`](crate::Seen)), and no path.
 ///
 /// The report has the supervisors in the order of the tree's paths, and those that were added behind them, as they were.
 ///
@@ -254,9 +254,9 @@ fn places_for(tables: usize, room: usize) -> usize
     tables + room.min(MAX_TABLES - tables)
 }
 
-/// The whole life of a tree in one call, counted in turns: each of 1 to 8 hands makes so many turns in a thread of its own, then the
-/// root is asked to stop, each hand makes as many turns again, and the tree is closed. Out comes the report of what it was, with
-/// the counts of each supervisor before the stop ([`otp_tree::run_tree_counted`]).
+/// The whole life of a tree in one call, counted in turns. Each of 1 to 8 hands makes so many turns in a thread of its own; then
+/// the root is asked to stop, each hand makes as many turns again, and the tree is closed. Out comes the report of what it was,
+/// with the counts of each supervisor before the stop ([`otp_tree::run_tree_counted`]).
 ///
 /// The gate is asked the time before each turn; [`Still`](crate::Still) is one for which no time passes. Of one hand a few turns
 /// for each child are enough, and turns in which there is nothing to do cost little.
@@ -291,7 +291,7 @@ where
     }
 }
 
-/// The same without the counts.
+/// Does what [`run_counted`] does, and leaves the counts out.
 pub fn run_turns<R, J, S, G>(
     rt: &R,
     alloc: Global,
@@ -394,7 +394,7 @@ where
     }
 }
 
-/// The same, where trees can be added while it runs ([`add_tree`](crate::add_tree)).
+/// Does what [`with_tree`] does with a tree to which others can be added while it runs ([`add_tree`](crate::add_tree)).
 ///
 /// # Errors
 ///

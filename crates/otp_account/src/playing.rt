@@ -128,10 +128,11 @@ fn words_of(number: u64, line: &[u8]) -> &[u8] {
 }
 
 /// How a run ends of which all lines were played, of which this was the first whose expectation was not so: a line could do
-/// nothing that planned the start of a child that wasn't there, if none came.
-fn end_of(trial: &Trial, failed: Option<u64>) -> TryEnd {
+/// nothing that planned the start of a child that wasn't there, if none came. Where no line said anything, nothing was played.
+fn end_of(trial: &Trial, is_played: bool, failed: Option<u64>) -> TryEnd {
     match line_of_unknown(trial.planned()) {
         Some(line) => TryEnd::LineMissed(line, ActionEnd::NoChild),
+        None if !is_played => TryEnd::NothingPlayed,
         None => match failed {
             None => TryEnd::Done,
             Some(line) => TryEnd::ExpectationFailed(line),
@@ -158,7 +159,7 @@ fn play_lines(
             Some(end) => return Ok(end),
         }
     }
-    Ok(end_of(trial, failed))
+    Ok(end_of(trial, !lines.is_empty(), failed))
 }
 
 /// What is kept of the opening of a tree of which this was told.

@@ -22,7 +22,7 @@ pub struct Counts {
 }
 
 impl Counts {
-    /// Of a supervisor that was never opened.
+    /// What is counted of a supervisor that was never opened.
     pub fn new() -> Counts
         ensures { result ≡ nothing }
     {

@@ -83,28 +83,28 @@ pub(crate) fn find_home(kept: &[Kept], slot: usize) -> Option<usize>
     kept.iter().position(|one| is_at_home(one, slot))
 }
 
-/// That of the body of the child in this slot, which is with its process.
+/// The place in the list of the body of the child in this slot, which is with its process.
 pub(crate) fn find_away(kept: &[Kept], slot: usize) -> Option<usize>
     ensures { result ≡ position (is_away slot) kept.now }
 {
     kept.iter().position(|one| is_away(one, slot))
 }
 
-/// That of the first body that waits with its call.
+/// The place in the list of the first body that waits with its call.
 pub(crate) fn find_waiting(kept: &[Kept]) -> Option<usize>
     ensures { result ≡ position is_waiting kept.now }
 {
     kept.iter().position(|one| is_waiting(one))
 }
 
-/// That of a body that this call brought and that no child has.
+/// The place in the list of a body that this call brought and that no child has.
 pub(crate) fn find_left(kept: &[Kept], call: u64) -> Option<usize>
     ensures { result ≡ position (is_left_of call) kept.now }
 {
     kept.iter().position(|one| is_left_of(one, call))
 }
 
-/// That of a body that is nobody's.
+/// The place in the list of a body that is nobody's.
 pub(crate) fn find_stray(kept: &[Kept]) -> Option<usize>
     ensures { result ≡ position is_stray kept.now }
 {
@@ -167,7 +167,7 @@ fn are_seen_to_stay(kept: &[Kept], rows: &[Row], is_any_waiting: bool) -> bool
     true
 }
 
-/// The same for the whole list. Mostly no child has gone, which is seen without marking the slots of all.
+/// Does what [`settle_all`] does. Mostly no child has gone, which is seen without marking the slots of all.
 pub(crate) fn settle_items(kept: &mut Vec<Kept>, rows: &[Row], is_any_waiting: bool)
     requires { AreBelow rows.now }
     ensures { kept.new.items ≡ settled rows.now is_any_waiting kept.old.items }
@@ -190,7 +190,7 @@ fn open_one(one: &mut Kept, rows: &[Row], taken: &[bool; MAX_CHILDREN])
     }
 }
 
-/// At an opening with these rows.
+/// At an opening with these rows each free body comes home whose child has a row.
 fn open_all(kept: &mut [Kept], rows: &[Row])
     requires { AreBelow rows.now }
     ensures { kept.new ≡ opened rows.now kept.old }
@@ -201,7 +201,7 @@ fn open_all(kept: &mut [Kept], rows: &[Row])
     }
 }
 
-/// The same for the whole list.
+/// Does what [`open_all`] does, to the whole list.
 pub(crate) fn open_items(kept: &mut Vec<Kept>, rows: &[Row])
     requires { AreBelow rows.now }
     ensures { kept.new.items ≡ opened rows.now kept.old.items }
@@ -219,14 +219,14 @@ fn is_from(kept: &Kept, place: usize) -> bool
     }
 }
 
-/// Whether one was.
+/// Whether one of the bodies was handed in for the child specification at this place.
 pub(crate) fn is_any_from(kept: &[Kept], place: usize) -> bool
     ensures { result ≡ list_any (is_from place) kept.now }
 {
     kept.iter().any(|one| is_from(one, place))
 }
 
-/// Whether the body was, and waits with no call.
+/// Whether the body was handed in for the child specification at this place, and waits with no call.
 fn is_given(kept: &Kept, place: usize) -> bool
     ensures { result ≡ is_given place kept.now }
 {
@@ -237,7 +237,7 @@ fn is_given(kept: &Kept, place: usize) -> bool
     }
 }
 
-/// Whether one was.
+/// Whether one of the bodies was handed in for the child specification at this place, and waits with no call.
 fn is_any_given(kept: &[Kept], place: usize) -> bool
     ensures { result ≡ list_any (is_given place) kept.now }
 {
@@ -250,14 +250,14 @@ fn is_out(kept: &Kept) -> bool
     matches!(kept.place, Place::Away(_))
 }
 
-/// Whether one is with a process.
+/// Whether one of the bodies is with a process.
 pub(crate) fn is_any_out(kept: &[Kept]) -> bool
     ensures { result ≡ list_any is_out kept.now }
 {
     kept.iter().any(|one| is_out(one))
 }
 
-/// Whether one was for each of the first so many child specifications.
+/// Whether for each of the first so many child specifications a body was handed in that waits with no call.
 pub(crate) fn are_given(kept: &[Kept], specs: usize) -> bool
     ensures { result ≡ are_given specs kept.now }
 {

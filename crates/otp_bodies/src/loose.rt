@@ -26,7 +26,7 @@ fn find_loose(kept: &[Kept]) -> Option<usize>
     kept.iter().position(|one| is_loose(one))
 }
 
-/// Whether one is.
+/// Whether one of the bodies is loose.
 fn is_any_loose(kept: &[Kept]) -> bool
     ensures { result ≡ list_any is_loose kept.now }
 {

@@ -6,3 +6,4 @@ pub mod Nexts
 pub mod Told
 pub mod Opens
 pub mod Limits
+pub mod Versions

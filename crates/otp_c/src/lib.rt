@@ -11,6 +11,8 @@ ghost use Rattle.otp_c.specs.Nexts.{HandsOut, WritesNext};
 ghost use Rattle.otp_c.specs.Opens.{OpensIn, Reads};
 ghost use Rattle.otp_c.specs.Said.{Says, line_in, spec_in};
 ghost use Rattle.otp_c.specs.Stands.{LooksAt, LooksAtChild, SaysChild, SaysRow, SaysSupervisor};
+ghost use Rattle.otp_c.specs.Versions.{version_number};
+ghost use Rattle.otp_c.specs.declared.version.TheConstants.{MAJOR, MINOR, PATCH};
 ghost use Rattle.otp_shapes.specs.AnswersShown.{ShowsAnswer, ShowsLine};
 ghost use Rattle.otp_shapes.specs.Shown.{ShowsSpec};
 ghost use Rattle.otp_shapes.specs.declared.status.TheConstants.{OTP_OK, OTP_OPEN};
@@ -21,6 +23,7 @@ mod handle;
 mod look;
 mod parts;
 mod room;
+mod version;
 
 use crate::look::{row_out, supervisor_out};
 pub use calls::{otp_call, otp_note, otp_start_child, otp_stop, otp_tick};
@@ -40,6 +43,7 @@ use otp_shapes::{
 use otp_spec::{ChildSpec, MAX_CHILDREN, MAX_READING, MAX_TABLES};
 use otp_table::Row;
 use std::alloc::Global;
+use version::{MAJOR, MINOR, PATCH};
 
 /// The tree that a file says, opened; or why it is refused, or nothing where there was no memory.
 fn session_of(alloc: Global, text: &[u8]) -> Result<Session, Option<TableFault>>
@@ -410,4 +414,12 @@ pub extern "C" fn otp_limit(kind: u32) -> u64
         7 => KEPT_EVENTS as u64,
         _ => 0,
     }
+}
+
+/// The version of the library.
+#[unsafe(no_mangle)]
+pub extern "C" fn otp_version() -> u32
+    ensures { result ≡ version_number MAJOR MINOR PATCH }
+{
+    MAJOR * 65536 + MINOR * 256 + PATCH
 }

@@ -92,7 +92,7 @@ enum Came<J: Drop, S: Drop> {
     Added(Result<TableNo, AddError<J, S>>),
 }
 
-/// How far it is, what a caller wants.
+/// How far what a caller wants has come.
 #[derive(Drop)]
 enum Stage<J: Drop, S: Drop> {
     /// It wants nothing.
@@ -102,7 +102,7 @@ enum Stage<J: Drop, S: Drop> {
     Sent(usize, u64),
     /// This came of it, which the caller has still to take.
     Came(Came<J, S>),
-    /// The same, and the run has ended meanwhile.
+    /// This came of it, which the caller has still to take, and the run has ended meanwhile.
     Last(Came<J, S>),
     /// The run has ended.
     Closed,
@@ -125,7 +125,8 @@ pub struct Caller<J: Drop, S: Drop> {
     // Is locked as long as a call is under way.
     line: Mutex<()>,
     stage: Mutex<Stage<J, S>>,
-    // What is to be done for it, which is changed under the lock of the stage and read without.
+    // What is to be done for it, which is changed under the lock of the stage and read without. Each step is `SeqCst`, as [`Bells`]
+    // asks: it says `WANTED` before the hands are rung, and a hand reads it after it announced its sleep.
     mark: AtomicU64,
     // By which the caller sleeps, and by which it wakes the hands.
     own: Bells,
@@ -329,7 +330,8 @@ impl<J: Drop, S: Drop> Caller<J, S> {
         match sent {
             Ok(number) => {
                 self.note_sent(rt, table, number);
-                // A hand that gave the answer before that didn't know that it is awaited.
+                // A hand that gave the answer before the mark said `SENT` didn't know that it is awaited. One that gives it after
+                // this look had the supervisor's lock later, and so reads the mark.
                 self.collect(rt, system);
                 Some(table)
             }

@@ -31,7 +31,7 @@ pub struct Finding {
 }
 
 impl Finding {
-    /// The same, on this line.
+    /// This finding, on this line.
     pub(crate) fn on_line(self, line: Option<u64>) -> Finding
         ensures fault { result.fault ≡ self.fault }
         ensures text { result.text.items ≡ self.text.items }

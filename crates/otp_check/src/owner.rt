@@ -10,7 +10,7 @@ use std::alloc::AllocError;
 pub(crate) enum Owner<'a> {
     /// A supervisor's table.
     Supervisor(&'a [u8]),
-    /// That of its child at this place, from 0, under this id.
+    /// The table of its child at this place, from 0, under this id.
     Child(&'a [u8], usize, Option<&'a str>),
 }
 

@@ -48,7 +48,7 @@ pub enum CloseFault<J: Drop, S: Drop, K: Drop> {
     /// E20: a hand is missing or another tree's, or the hands aren't in the order in which the tree was opened with them,
     /// or the client isn't the one that it was opened with.
     Missing(K),
-    /// A supervisor's lock holds another one's, and here is what shows it. It doesn't happen, since each is opened with its own
+    /// A supervisor's lock holds another one's table, as the value shows. This doesn't happen, since each is opened with its own
     /// and nothing moves them; but what lies under a lock is known by its type alone, which doesn't say whose it is.
     Misplaced(K, Displaced),
     /// E17: a supervisor was told an end of another that isn't the one that the other's own history gives, as far as that is
@@ -94,9 +94,9 @@ pub struct Intact<N: TreeNaming, J: Drop, S: Drop> {
 /// Of each supervisor stands what [`Table::keeps_rules`](otp_sup::Table::keeps_rules) says; and no process number is a child's in
 /// two supervisors (`apart`), since each one's seat comes home to the client's.
 ///
-/// What began and what ended adds up: as many processes began as starts were sent, and the root's (`starts`), and as many ended
-/// as notes of ends were made (`ends`): a supervisor took the note or left it, or whoever opened the tree did, or a hand had it
-/// still to send.
+/// What began and what ended adds up. As many processes began as starts were sent, and the root's (`starts`). As many ended as
+/// notes of ends were made (`ends`): a supervisor took the note or left it, or whoever opened the tree did, or a hand had it still
+/// to send.
 ///
 /// # Errors
 ///

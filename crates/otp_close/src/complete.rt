@@ -32,7 +32,7 @@ pub(crate) fn is_reached<N: TreeNaming, J: Drop, S: Drop>(
     has_all_parts(hands, client)
 }
 
-/// Whether it sends to so many supervisors, and to whoever opened the tree.
+/// Whether the client sends to so many supervisors, and to whoever opened the tree.
 fn reaches<N: WordsNaming + InboxNaming, B: Drop>(client: &Client<N, B>, tables: usize) -> bool
     ensures { IsTrue result ↔ (length client.now.senders ≡ tables + 1) }
 {
@@ -40,7 +40,7 @@ fn reaches<N: WordsNaming + InboxNaming, B: Drop>(client: &Client<N, B>, tables:
     count > tables && count - tables == 1
 }
 
-/// Whether each hand sends to so many.
+/// Whether each hand has so many senders.
 fn reach_as_far<N: TreeNaming, J: Drop, S: Drop>(hands: &[Hand<N, J, S>], count: usize) -> bool
     ensures { IsTrue result ↔ AllAt (λ _ hand. length (senders_of hand) ≡ count) hands.now }
 {
@@ -52,14 +52,14 @@ fn reach_as_far<N: TreeNaming, J: Drop, S: Drop>(hands: &[Hand<N, J, S>], count:
     true
 }
 
-/// Whether the hand sends to so many.
+/// Whether the hand has so many senders.
 fn sends_to<N: TreeNaming, J: Drop, S: Drop>(hand: &Hand<N, J, S>, count: usize) -> bool
     ensures { IsTrue result ↔ (length (senders_of hand.now) ≡ count) }
 {
     hand.senders.len() == count
 }
 
-/// Whether they have the whole right to send to each of those to which the client sends.
+/// Whether hands and client together have the whole right to send to each of those to which the client sends.
 fn has_all_parts<N: TreeNaming, J: Drop, S: Drop>(
     hands: &[Hand<N, J, S>],
     client: &Client<N, Body<J, S>>,
@@ -74,7 +74,7 @@ fn has_all_parts<N: TreeNaming, J: Drop, S: Drop>(
     true
 }
 
-/// The parts of the right to send to one supervisor that they have together; 2^64 - 1 where they would be more.
+/// The parts of the right to send to one supervisor that hands and client have together; 2^64 - 1 where they would be more.
 fn parts_to<N: TreeNaming, J: Drop, S: Drop>(
     place: usize,
     hands: &[Hand<N, J, S>],

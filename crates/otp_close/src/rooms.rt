@@ -78,7 +78,7 @@ fn room_for<N: TreeNaming, J: Drop, S: Drop>(
     }
 }
 
-/// The same of a supervisor that takes from its own inbox.
+/// Room for what is left in the inbox of a supervisor that takes from its own inbox.
 fn room_of<N: TreeNaming, J: Drop, S: Drop>(
     alloc: Global,
     place: usize,

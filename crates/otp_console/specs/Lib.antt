@@ -1,4 +1,6 @@
+pub mod Pages
 pub mod Endings
+pub mod Imported
 pub mod Used
 pub mod Runs
 pub mod Trees

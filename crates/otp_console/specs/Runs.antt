@@ -17,11 +17,11 @@ use Rattle.otp_ending.specs.Statuses.{status_of}
 use Rattle.otp_ending.specs.Told.{IsSmall, Tells, TellsFirst, goes_on, worse}
 use Rattle.otp_ending.specs.declared.ending.Unwritten.{Unwritten}
 use Rattle.otp_ending.specs.declared.ending.ProgramEnd.{ProgramEnd}
-use Rattle.otp_ending.specs.declared.ending.ProgramEnd.TheVariants.{Done, WordsRefused, NoCommand, WordNotText, FileAsCommand, TreeNotRead, FileNotRead, TreeRefused, FaultsFound, LineRefused, HistoryFull, InputFailed, OutputFailed, OutOfMemory, UnknownClock, NotATime, NeedsFor, CountsTurns}
+use Rattle.otp_ending.specs.declared.ending.ProgramEnd.TheVariants.{Done, WordsRefused, NoCommand, WordNotText, FileAsCommand, TreeNotRead, FileNotRead, TreeRefused, FaultsFound, LineRefused, HistoryFull, InputFailed, OutputFailed, OutOfMemory, UnknownClock, NotATime, NeedsFor, CountsTurns, Refused}
 use Rattle.otp_words.specs.declared.words.Command.{Command}
 use Rattle.otp_words.specs.declared.words.Command.TheVariants as command
 use Rattle.otp_console.specs.Trees.{TreeRuns}
-use Rattle.otp_console.specs.Used.{Uses}
+use Rattle.otp_console.specs.Used.{Uses, has_remarks}
 
 -- the file says a tree, and its supervisor was played to this end
 abbrev pub Played : SimEnd → List ℕ → Devices → Devices → Type 0
@@ -55,6 +55,7 @@ Answers NotATime old new = new ≡ old
 Answers NeedsFor old new = new ≡ old
 Answers CountsTurns old new = new ≡ old
 Answers FileAsCommand old new = new ≡ old
+Answers (Refused _) old new = new ≡ old
 Answers OutputFailed old new = IsUnread old new × (old.output.failures < new.output.failures)
 Answers OutOfMemory old new = new ≡ old
 Answers _ old new = ⊥
@@ -72,8 +73,8 @@ IsLawfulFor true file = IsRunnable file
 abbrev pub HasFaults : List ℕ → Type 0
 HasFaults file = ((why : TreeFault) × IsFirstFault why file) ⊎ ((why : PlanFault) × HasStarts file why)
 
--- a file was checked, with its starts or without: nothing is written to be wrong in it exactly where it says a tree (which
--- can be run)
+-- a file was checked, with its starts or without: how that ends says whether it says a tree (which can be run). What is written
+-- of its faults is said nowhere
 abbrev pub IsChecked : Bool → ProgramEnd → List ℕ → Written → Written → Type 0
 IsChecked starts Done file old new = IsLawfulFor starts file
 IsChecked starts FaultsFound file old new = HasFaults file
@@ -115,10 +116,12 @@ Does known trees (command.Serve file settings serving shows) ending old new =
     IsUnread old new × trees.for_a_time (known.holds file.now) shows.is_json file.now ending old.output new.output
 Does known trees (command.Use file usage) ending old new = Uses known file.now usage ending old new
 
--- a picture of the tree that is run is told besides, or why its supervisors ended, where the command asks for it
+-- a picture of the tree that is run is told besides, or why its supervisors ended, where the command asks for it; and remarks on what
+-- is imported
 abbrev pub draws : Command → Bool
 draws (command.Run file settings shows) = shows.is_drawn || shows.is_why
 draws (command.Serve file settings serving shows) = shows.is_drawn || shows.is_why
+draws (command.Use file usage) = has_remarks usage
 draws _ = false
 
 -- what the words ask for was done, for some command, with a picture or without; or the words alone were answered

@@ -124,7 +124,7 @@ fn write_some<W: Output, F: Remark>(
     if hidden == 0 {
         return Ok(());
     }
-    write_all(output, name.as_bytes())?;
+    write_name(name, output)?;
     write_numbered(
         output,
         b": and ",
@@ -169,8 +169,51 @@ fn write_unread_line<W: Output>(name: &str, why: &str, output: &mut W) -> Result
     ensures failed { OnErr result ((W.seen output.old).failures < (W.seen output.new).failures) }
     ensures kept { (W.seen output.old).failures ≤ (W.seen output.new).failures }
 {
-    write_all(output, name.as_bytes())?;
+    write_name(name, output)?;
     write_three(output, b": can't be read: ", why.as_bytes(), b"\n")
+}
+
+/// Whether a letter moves the cursor, or changes in which order others are shown.
+fn is_strange(letter: char) -> bool {
+    letter.is_control()
+        || matches!(letter, '\u{200b}'..='\u{200f}' | '\u{2028}'..='\u{202e}' | '\u{2060}'..='\u{206f}' | '\u{feff}')
+}
+
+/// Writes a letter escaped, as in a text of Rust.
+fn write_escaped<W: Output>(letter: char, output: &mut W) -> Result<(), Failed>
+    ensures failed { OnErr result ((W.seen output.old).failures < (W.seen output.new).failures) }
+    ensures kept { (W.seen output.old).failures ≤ (W.seen output.new).failures }
+{
+    for part in letter.escape_debug() {
+        let mut room = [0u8; 4];
+        write_all(output, part.encode_utf8(&mut room).as_bytes())?;
+    }
+    Ok(())
+}
+
+/// Writes the letters of a file's name, each escaped.
+fn write_letters<W: Output>(name: &str, output: &mut W) -> Result<(), Failed>
+    ensures failed { OnErr result ((W.seen output.old).failures < (W.seen output.new).failures) }
+    ensures kept { (W.seen output.old).failures ≤ (W.seen output.new).failures }
+{
+    for letter in name.chars() {
+        write_escaped(letter, output)?;
+    }
+    Ok(())
+}
+
+/// Writes the name of a file on one line, escaped where a letter is strange. Of an empty name stand two quotes.
+fn write_name<W: Output>(name: &str, output: &mut W) -> Result<(), Failed>
+    ensures failed { OnErr result ((W.seen output.old).failures < (W.seen output.new).failures) }
+    ensures kept { (W.seen output.old).failures ≤ (W.seen output.new).failures }
+{
+    if name.is_empty() {
+        return write_all(output, b"\"\"");
+    }
+    if name.chars().any(is_strange) {
+        return write_letters(name, output);
+    }
+    write_all(output, name.as_bytes())
 }
 
 /// Writes a line that begins with a file's name, and the number of its line, if that is known.
@@ -183,7 +226,7 @@ fn write_line<W: Output>(
     ensures failed { OnErr result ((W.seen output.old).failures < (W.seen output.new).failures) }
     ensures kept { (W.seen output.old).failures ≤ (W.seen output.new).failures }
 {
-    write_all(output, name.as_bytes())?;
+    write_name(name, output)?;
     match line {
         Some(line) => write_numbered(output, b":", line, b": ")?,
         None => write_all(output, b": ")?,

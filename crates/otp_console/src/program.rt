@@ -2,7 +2,7 @@
 //! stream.
 
 ghost use Rattle.std.specs.Prelude.{◌≡◌, ◌≤◌, ◌⊎◌, false};
-ghost use Rattle.otp_sim.specs.Devices.{Readable, devices};
+ghost use Rattle.otp_sim.specs.Devices.{Devices, Readable, devices};
 ghost use Rattle.otp_console.specs.Runs.{Answers, Checks, ChecksAll, Does, IsObeyed, IsProgramRun, Simulates, draws};
 ghost use Rattle.otp_console.specs.Trees.{no_trees};
 ghost use Rattle.otp_ending.specs.Told.{TellsFirst};
@@ -14,7 +14,7 @@ use crate::checking::{check_file, write_unread};
 use crate::console::console;
 use crate::using::use_named;
 use clap::Error;
-use otp_ending::{ProgramEnd, TreeFiles, Unread, explain, read_small, tell};
+use otp_ending::{ProgramEnd, TreeFiles, Unread, explain, read_large, read_small, tell};
 use otp_sim::{Failed, Input, Output, write_all};
 use otp_words::{Checking, Command, WordsFault, read_words};
 use std::alloc::Global;
@@ -119,13 +119,13 @@ fn simulate<'a, F: TreeFiles, R: Input, W: Output, E: Output>(
     ensures first { TellsFirst false result (E.seen errors.old) (E.seen errors.new) }
     ensures kept { (E.seen errors.old).failures ≤ (E.seen errors.new).failures }
 {
-    match files.read(name) {
+    match read_large(files, name) {
         Ok(file) => {
             let ending = console(alloc, &file, input, output);
             explain(errors, name, ending);
             ending
         }
-        Err(error) => ProgramEnd::of_file(&error),
+        Err(ending) => ending,
     }
 }
 
@@ -184,14 +184,28 @@ pub fn answer<'a, W: Output, E: Output>(
 {
     match fault {
         WordsFault::Clap(error) => show(alloc, error, output, errors),
+        WordsFault::Topic(text) => show_text(text, output),
+        _ => end_of_fault(fault),
+    }
+}
+
+/// The end of words of which nothing is written but its sentence. Of a text of `clap` or of a topic, which is written elsewhere, it is
+/// one that holds of it in any case.
+fn end_of_fault<'a>(fault: &WordsFault) -> ProgramEnd<'a>
+    ensures ending { EndsFor fault.now result }
+    ensures done { (seen : Devices) → Answers result seen seen }
+{
+    match fault {
         WordsFault::NoCommand => ProgramEnd::NoCommand,
         WordsFault::FileAsCommand => ProgramEnd::FileAsCommand,
         WordsFault::UnknownClock => ProgramEnd::UnknownClock,
         WordsFault::NotATime => ProgramEnd::NotATime,
         WordsFault::NeedsFor => ProgramEnd::NeedsFor,
         WordsFault::CountsTurns => ProgramEnd::CountsTurns,
-        WordsFault::Topic(text) => show_text(text, output),
+        WordsFault::Slip(slip) => ProgramEnd::Refused(slip.text()),
         WordsFault::NotText => ProgramEnd::WordNotText,
+        WordsFault::Topic(_) => ProgramEnd::Done,
+        WordsFault::Clap(_) => ProgramEnd::OutOfMemory,
         WordsFault::OutOfMemory => ProgramEnd::OutOfMemory,
     }
 }

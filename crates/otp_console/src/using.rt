@@ -2,14 +2,15 @@
 
 ghost use Rattle.std.specs.Prelude.{Option, ◌≤◌, false};
 ghost use Rattle.otp_sim.specs.Devices.{Readable, devices};
-ghost use Rattle.otp_console.specs.Used.{IsComparedWith, IsRead, IsReplayOf, IsRunPaged, IsTrialFor, IsTrialOf, IsUsed, Uses};
+ghost use Rattle.otp_console.specs.Used.{IsComparedWith, IsRead, IsReplayOf, IsRunPaged, IsTrialFor, IsTrialOf, IsUsed, Uses, has_remarks};
 ghost use Rattle.otp_ending.specs.Told.{TellsFirst};
 ghost use Rattle.otp_questions.specs.Limited.{IsLimited};
 ghost use Rattle.otp_questions.specs.Paged.{IsRunTold};
 ghost use Rattle.otp_questions.specs.Tried.{IsTrial};
 
-use crate::pages::{put_limits, put_run, put_tree};
-use otp_ending::{ProgramEnd, TreeFiles, read_file, read_log, read_tree_file};
+use crate::importing::import_file;
+use crate::pages::{ask, put_limits, put_run, put_tree};
+use otp_ending::{ProgramEnd, TreeFiles, read_log, read_script, read_tree_file};
 use otp_folds::{Grain, Pick, Progress, Unseen};
 use otp_questions::{
     Asking, Log, compare_files, draw_file, limit_file, replay_file, stop_file, suggest_file,
@@ -18,7 +19,7 @@ use otp_questions::{
 use otp_replay::Replaying;
 use otp_sim::{Counted, Input, Output};
 use otp_try::{Clock, Playing, Shows, Writer};
-use otp_words::{Form, TrialShows, Usage};
+use otp_words::{Form, Page, TrialShows, Usage};
 use std::alloc::Global;
 
 /// Uses the tree file of this name.
@@ -34,7 +35,7 @@ pub(crate) fn use_named<'a, F: TreeFiles, R: Input, W: Output, E: Output>(
     ensures done { Uses (F.known files.now) name.now usage.entry result
         (devices (R.seen input.old) (W.seen output.old))
         (devices (R.seen input.new) (W.seen output.new)) }
-    ensures first { TellsFirst false result (E.seen errors.old) (E.seen errors.new) }
+    ensures first { TellsFirst (has_remarks usage.entry) result (E.seen errors.old) (E.seen errors.new) }
     ensures kept { (E.seen errors.old).failures ≤ (E.seen errors.new).failures }
 {
     match read_tree_file(files, name, errors) {
@@ -57,7 +58,7 @@ fn use_file<'a, F: TreeFiles, R: Input, W: Output, E: Output>(
     ensures done { IsUsed (F.known files.now) name.now usage.entry result file.now
         (devices (R.seen input.old) (W.seen output.old))
         (devices (R.seen input.new) (W.seen output.new)) }
-    ensures first { TellsFirst false result (E.seen errors.old) (E.seen errors.new) }
+    ensures first { TellsFirst (has_remarks usage.entry) result (E.seen errors.old) (E.seen errors.new) }
     ensures kept { (E.seen errors.old).failures ≤ (E.seen errors.new).failures }
 {
     match usage {
@@ -70,7 +71,7 @@ fn use_file<'a, F: TreeFiles, R: Input, W: Output, E: Output>(
             alloc, files, name, file, script, writer, shows, form, input, output, errors,
         ),
         Usage::Draw { page: None } => draw_file(alloc, name, file, output),
-        Usage::Draw { page: Some(page) } => put_tree(alloc, files, name, file, page),
+        Usage::Draw { page: Some(page) } => put_tree(alloc, files, name, file, page, output),
         Usage::Stop => stop_file(alloc, name, file, output),
         Usage::Limit { pick, grain, form } => match form {
             Form::Text => limit_seen(alloc, files, name, file, pick, grain, output),
@@ -82,7 +83,7 @@ fn use_file<'a, F: TreeFiles, R: Input, W: Output, E: Output>(
                 };
                 limit_file(alloc, name, file, asking, &Unseen, output)
             },
-            Form::Page(page) => put_limits(alloc, files, name, file, pick, grain, page),
+            Form::Page(page) => put_limits(alloc, files, name, file, pick, grain, page, output),
         },
         Usage::Suggest { child, every } => suggest_file(alloc, name, file, child, every, output),
         Usage::Compare { other } => compare_with(alloc, files, name, file, other, output, errors),
@@ -92,6 +93,14 @@ fn use_file<'a, F: TreeFiles, R: Input, W: Output, E: Output>(
             shows,
         } => replay_log(
             alloc, files, name, file, log, is_listed, shows, output, errors,
+        ),
+        Usage::Import { of_commands } => import_file(
+            alloc,
+            name,
+            file,
+            of_commands,
+            output,
+            errors,
         ),
     }
 }
@@ -164,7 +173,17 @@ fn try_as<'a, F: TreeFiles, R: Input, W: Output, E: Output>(
             output,
             errors,
         ),
-        Form::Page(page) => put_whole(alloc, files, name, file, script, shows.clock, page, errors),
+        Form::Page(page) => put_whole(
+            alloc,
+            files,
+            name,
+            file,
+            script,
+            shows.clock,
+            page,
+            output,
+            errors,
+        ),
     }
 }
 
@@ -184,29 +203,36 @@ fn tell_whole<'a, F: TreeFiles, W: Output, E: Output>(
     ensures first { TellsFirst false result (E.seen errors.old) (E.seen errors.new) }
     ensures kept { (E.seen errors.old).failures ≤ (E.seen errors.new).failures }
 {
-    match read_log(files, script.unwrap_or("-"), errors) {
+    match read_script(files, script.unwrap_or("-"), errors) {
         Ok(lines) => tell_run(alloc, name, file, &lines, clock, output),
         Err(ending) => ending,
     }
 }
 
-/// Writes a run of the script of this name as a page.
-fn put_whole<'a, F: TreeFiles, E: Output>(
+/// Writes a run of the script of this name as a page, which may go there.
+fn put_whole<'a, F: TreeFiles, W: Output, E: Output>(
     alloc: Global,
     files: &F,
     name: &'a str,
     file: &[u8],
     script: Option<&'a str>,
     clock: Clock,
-    page: &'a str,
+    page: Page<'a>,
+    output: &mut W,
     errors: &mut E,
 ) -> ProgramEnd<'a>
-    ensures done { IsRunPaged (F.known files.now).keeps page.entry name.now file.now result }
+    ensures done { IsRunPaged (F.known files.now) page.entry name.now script.entry file.now result
+        (W.seen output.old) (W.seen output.new) }
     ensures first { TellsFirst false result (E.seen errors.old) (E.seen errors.new) }
     ensures kept { (E.seen errors.old).failures ≤ (E.seen errors.new).failures }
 {
-    match read_log(files, script.unwrap_or("-"), errors) {
-        Ok(lines) => put_run(alloc, files, name, file, &lines, clock, page),
+    if let Err(ending) = ask(files, page, name, script) {
+        return ending;
+    }
+    match read_script(files, script.unwrap_or("-"), errors) {
+        Ok(lines) => put_run(
+            alloc, files, name, file, script, &lines, clock, page, output,
+        ),
         Err(ending) => ending,
     }
 }
@@ -239,7 +265,7 @@ fn try_by<'a, F: TreeFiles, R: Input, W: Output, E: Output>(
         };
         return try_file(alloc, name, file, playing, input, output);
     };
-    match read_file(files, script, errors) {
+    match read_script(files, script, errors) {
         Ok(lines) => {
             let playing = Playing {
                 writer,

@@ -82,8 +82,8 @@ impl Core {
         Ok(self.step_with(reading, kind, numbers))
     }
 
-    /// The same where process numbers are counted: a child that is started gets the next one after `last`, and the answer is
-    /// the last number then.
+    /// What happens now, as of [`Core::happen`], where process numbers are counted: a child that is started gets the next one after
+    /// `last`. The answer is the last number then.
     ///
     /// # Errors
     ///

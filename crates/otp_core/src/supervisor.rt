@@ -137,7 +137,7 @@ impl Core {
         Ok(Core::of(alloc, SupSpec::new(flags, specs)))
     }
 
-    /// The same for what was tested before: nothing is tested again or copied, and by its code no memory is taken.
+    /// A core that was never opened, for what was tested before: nothing is tested again or copied. By its code no memory is taken.
     pub fn of(alloc: Global, supervisor: SupSpec) -> Core
         ensures core { result ≡ new_core supervisor.flags supervisor.specs }
         ensures limit { length supervisor.specs ≤ MAX_CHILDREN }
@@ -346,8 +346,8 @@ impl Core {
         self.machine.rows.as_slice()
     }
 
-    /// The place among its children ([`Core::rows`]) of the one whose process has this number, if one has. It is found by
-    /// halving the numbers, and no child is looked at that hasn't it.
+    /// The place among its children ([`Core::rows`]) of the one whose process has this number, if one has. The place where such a
+    /// number stands most likely is looked at first, and all children only where another stands there.
     pub fn find_process(&self, number: u64) -> Option<usize>
         ensures { result ≡ position (row_has (has_process number)) (state_of self.now).rows }
     {
@@ -429,7 +429,8 @@ impl Core {
         self.idle_kind(is_stop_wanted)
     }
 
-    /// That event, deadlines apart: for a caller that tells the core each reading of the clock as it comes.
+    /// The event that comes next without an item of the inbox, deadlines apart: for a caller that tells the core each reading of
+    /// the clock as it comes.
     #[tactic(auto, unfolding(otp_rules::specs::Next::idle_kind))]
     pub fn idle_kind(&self, is_stop_wanted: bool) -> Option<Kind>
         ensures { result ≡ idle_kind (state_of self.now) is_stop_wanted }

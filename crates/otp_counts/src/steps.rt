@@ -62,7 +62,7 @@ impl Join<View> for Lend {
     ghost spent = { blank_view };
 }
 
-/// And gives it back.
+/// Who publishes gives back what a pass saw.
 pub struct GiveBack;
 
 impl Split<View> for GiveBack {

@@ -24,8 +24,8 @@ counted_text title a b =
 
 unfoldable pub affected_text : List ℕ → Row → Row → List ℕ
 affected_text title a b =
-    change_text title (codes "stops") (decimal (length a.own.stops)) (decimal (length b.own.stops))
-    ++ change_text title (codes "starts") (decimal (length a.own.starts)) (decimal (length b.own.starts))
+    change_text title (codes "stops") (decimal a.stopped) (decimal b.stopped)
+    ++ change_text title (codes "starts") (decimal a.started) (decimal b.started)
 
 unfoldable pub ended_text : List ℕ → Fate → Fate → List ℕ
 ended_text title a b = change_text title (codes "root") (root_text a) (root_text b)

@@ -374,7 +374,7 @@ fn write_was(title: &[u8], out: &mut Vec<u8>) -> Result<(), AllocError>
     out.extend_from_slice(b": start order")
 }
 
-/// Appends which one it has.
+/// Appends the start order that a supervisor has now.
 #[tactic(auto, unfolding(crate::specs::Changes::is_text))]
 fn write_is(other: &[u8], out: &mut Vec<u8>) -> Result<(), AllocError>
     ensures { OnOk result (out.new.items ≡ out.old.items ++ is_text other.now) }

@@ -128,7 +128,7 @@ fn write_counted(
     )
 }
 
-/// Appends how many children a crash stops and starts, where it differs.
+/// Appends how many processes a crash stops and starts, where it differs.
 #[tactic(auto, unfolding(crate::specs::Costs::affected_text))]
 fn write_affected(
     title: &[u8],
@@ -139,10 +139,8 @@ fn write_affected(
 ) -> Result<(), AllocError>
     ensures { OnOk result (out.new.items ≡ out.old.items ++ affected_text title.now a.now b.now) }
 {
-    let (one, other) = (a.own.stops.as_slice().len(), b.own.stops.as_slice().len());
-    write_number_change(title, b"stops", (one as u64, other as u64), words, out)?;
-    let (one, other) = (a.own.starts.as_slice().len(), b.own.starts.as_slice().len());
-    write_number_change(title, b"starts", (one as u64, other as u64), words, out)
+    write_number_change(title, b"stops", (a.stopped, b.stopped), words, out)?;
+    write_number_change(title, b"starts", (a.started, b.started), words, out)
 }
 
 /// Appends what differs in the numbers of two rows.

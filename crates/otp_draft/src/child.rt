@@ -72,7 +72,7 @@ impl ChildKeys {
         }
     }
 
-    /// Those that a specification says.
+    /// The keys that a specification says.
     pub fn of_spec(spec: &ChildSpec) -> ChildKeys
         ensures { result ≡ keys_of spec.now }
     {
@@ -87,7 +87,7 @@ impl ChildKeys {
         }
     }
 
-    /// The specification that they say; None where the id has more than 32 bytes.
+    /// The specification that these keys say; None where the id has more than 32 bytes.
     pub fn spec(&self) -> Option<ChildSpec>
         ensures { result ≡ spec_of self.now }
     {

@@ -619,7 +619,7 @@ impl<J: Drop, S: Drop> TreeDraft<J, S> {
         }
     }
 
-    /// The same plan in these lists, which have room for it.
+    /// The plan of the tree ([`TreeDraft::finish`]), in these lists, which have room for it.
     fn into_plan(
         self,
         tables: Vec<PlannedTable<J, S>>,

@@ -36,7 +36,7 @@ impl TreePath {
         text_of(self.prefix.as_slice())
     }
 
-    /// Whether that is this text.
+    /// Whether the path is this text.
     fn has_text(&self, text: &str) -> bool
         ensures { result ≡ has_path text.now self.now }
     {

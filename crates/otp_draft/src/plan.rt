@@ -18,8 +18,8 @@ pub struct TablePlan<J: Drop, S: Drop> {
     pub bodies: Vec<Body<J, S>>,
 }
 
-/// The same before the supervisors are numbered: the number of a child that is a supervisor says how many places behind its
-/// parent it stands in the list.
+/// A [`TablePlan`] before the supervisors are numbered: the number of a child that is a supervisor says how many places behind
+/// its parent it stands in the list.
 #[derive(Drop)]
 pub(crate) struct PlannedTable<J: Drop, S: Drop> {
     supervisor: SupSpec,
@@ -73,7 +73,7 @@ fn number_body<J: Drop, S: Drop>(body: &mut Body<J, S>, number: usize)
     }
 }
 
-/// The same for all bodies of the supervisor with this number.
+/// Gives each child's body its number, where it is a supervisor's: the bodies are those of the supervisor with this number.
 fn number_each<J: Drop, S: Drop>(bodies: &mut [Body<J, S>], number: usize)
     requires near { All IsNear bodies.old }
     requires few { number < MAX_TABLES }

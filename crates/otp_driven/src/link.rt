@@ -44,7 +44,7 @@ impl Link {
         }
     }
 
-    /// The same once it was started under this number.
+    /// This link once its supervisor was started under this number.
     pub fn begun(self, process: u64) -> Link
         ensures { result ≡ begun process self }
     {
@@ -57,7 +57,7 @@ impl Link {
         }
     }
 
-    /// The same once it is wanted to shut down.
+    /// This link once its supervisor is wanted to shut down.
     pub fn asked(self) -> Link
         ensures { result ≡ asked self }
     {
@@ -67,7 +67,7 @@ impl Link {
         }
     }
 
-    /// The same once it has told its parent this, and why it ended, where it did.
+    /// This link once its supervisor has told its parent this, and why it ended, where it did.
     #[tactic(auto, unfolding(crate::specs::Links::told))]
     pub fn told(self, note: Note, ended: Option<Ending>) -> Link
         ensures { result ≡ told note ended self }
@@ -78,7 +78,7 @@ impl Link {
         }
     }
 
-    /// The same once it has told its parent that it is up.
+    /// This link once its supervisor has told its parent that it is up.
     pub fn up(self) -> Link
         ensures { result ≡ up self }
     {
@@ -88,7 +88,7 @@ impl Link {
         }
     }
 
-    /// The same once it has no process any more, and why it ended, where that is known.
+    /// This link once its supervisor has no process any more, and why it ended, where that is known.
     pub fn gone(self, ended: Option<Ending>) -> Link
         ensures { result ≡ gone ended self }
     {

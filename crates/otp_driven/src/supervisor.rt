@@ -119,7 +119,7 @@ impl Supervisor {
         self.core.effects().get(self.taken)
     }
 
-    /// That order is taken. After the last one all are forgotten.
+    /// The next order that was not taken is taken. After the last one all are forgotten.
     #[tactic(auto, unfolding(crate::specs::Members::passed))]
     pub fn pass(&mut self)
         ensures { self.new ≡ passed self.old }

@@ -1,6 +1,6 @@
 -- The next step of a tree is one alone.
 use Rattle.std.proofs.lemmas.Bool.{ltb-false, ltb-true}
-use Rattle.std.specs.Prelude.{Bool, true, false, nat_lt, ◌≡◌, ◌+◌, ◌<◌, ◌≤◌, ◌++◌, ◌∷◌, [], ℕ, List, Option, Some, None, position, refl, slice_get, slice_set, unwrap_or}
+use Rattle.std.specs.Prelude.{Bool, true, false, nat_lt, ◌≡◌, ◌<◌, ◌≤◌, ◌++◌, ◌∷◌, [], ℕ, List, Option, Some, None, position, refl, slice_get, slice_set, unwrap_or}
 use Rattle.std.proofs.Common.{◌∙◌, ap, arith, inl, inr, subst, sym}
 use Rattle.std.proofs.lemmas.List.{get_or_default}
 use Rattle.std.proofs.lemmas.Option.{none-some}
@@ -21,10 +21,10 @@ use Rattle.otp_rules.specs.declared.event.Effect.{Effect}
 use Rattle.otp_rules.specs.declared.event.Kind.{Kind}
 
 -- what is in an option is one alone
-same_some : {X : Type 0} (o : Option X) (a b : X) → o ≡ Some a → o ≡ Some b → a ≡ b
+pub same_some : {X : Type 0} (o : Option X) (a b : X) → o ≡ Some a → o ≡ Some b → a ≡ b
 same_some o a b one other = let e : Some a ≡ Some b = sym one ∙ other in cc
 
-member_same : (ms : List Member) (p : ℕ) (a b : Member) → IsAt ms p a → IsAt ms p b → a ≡ b
+pub member_same : (ms : List Member) (p : ℕ) (a b : Member) → IsAt ms p a → IsAt ms p b → a ≡ b
 member_same ms p a b one other = one.is ∙ get_or_default ms p a b one.inside ∙ sym other.is
 
 link_same : (ls : List Link) (p : ℕ) (a b : Link) → HasLink ls p a → HasLink ls p b → a ≡ b
@@ -50,7 +50,7 @@ happens_same reading last k m x y i j one other =
     let b : _ = happens_after reading last k m y j other in
     (a.0 ∙ sym b.0, a.1 ∙ sym b.1)
 
-occurs_same : (p : ℕ) (k : Kind) (t u v : Driven) → Occurs p k t u → Occurs p k t v → u ≡ v
+pub occurs_same : (p : ℕ) (k : Kind) (t u v : Driven) → Occurs p k t u → Occurs p k t v → u ≡ v
 occurs_same p k t u v one other =
     let before : other.before ≡ one.before = member_same t.members p other.before one.before other.at one.at in
     let moved : Happens t.reading t.last k one.before other.after other.last =
@@ -62,11 +62,11 @@ occurs_same p k t u v one other =
     ∙ ap (λ (n : ℕ). record t { members = slice_set t.members p other.after; last = n }) same.1
     ∙ sym other.new_is
 
-relinks_same : (p : ℕ) (change : Link → Link) (t u v : Driven) → Relinks p change t u → Relinks p change t v → u ≡ v
+pub relinks_same : (p : ℕ) (change : Link → Link) (t u v : Driven) → Relinks p change t u → Relinks p change t v → u ≡ v
 relinks_same p change t u v one other =
     one.new_is ∙ ap (λ (l : Link). with_link p (change l) t) (link_same t.links p one.link other.link one.has other.has) ∙ sym other.new_is
 
-takes_same : (p : ℕ) (t u v : Driven) → Takes p t u → Takes p t v → u ≡ v
+pub takes_same : (p : ℕ) (t u v : Driven) → Takes p t u → Takes p t v → u ≡ v
 takes_same p t u v one other =
     one.new_is ∙ ap (λ (m : Member). record t { members = slice_set t.members p (passed m) }) (member_same t.members p one.member other.member one.at other.at) ∙ sym other.new_is
 
@@ -80,11 +80,16 @@ does_same (Tell parent x ended) p t u v (mid, occurs, links) (mid', occurs', lin
     let same : mid' ≡ mid = occurs_same parent (kind.Took (item.Note x)) t mid' mid occurs' occurs in
     relinks_same p (told x ended) mid u v links (subst (λ (y : Driven). Relinks p (told x ended) y v) same links')
 
-next_same : (t : Driven) (p : ℕ) (d e : Effect) (q r : Route) → IsNext t p d q → IsNext t p e r → q ≡ r
-next_same t p d e q r one other =
+pub order_same : (t : Driven) (p : ℕ) (d e : Effect) (q r : Route) → IsNext t p d q → IsNext t p e r → d ≡ e
+order_same t p d e q r one other =
     let same : other.member ≡ one.member = member_same t.members p other.member one.member other.at one.at in
     let moved : slice_get one.member.effects one.member.taken ≡ Some e = subst (λ (m : Member). slice_get m.effects m.taken ≡ Some e) same other.order_is in
-    let order : d ≡ e = same_some (slice_get one.member.effects one.member.taken) d e one.order_is moved in
+    same_some (slice_get one.member.effects one.member.taken) d e one.order_is moved
+
+pub next_same : (t : Driven) (p : ℕ) (d e : Effect) (q r : Route) → IsNext t p d q → IsNext t p e r → q ≡ r
+next_same t p d e q r one other =
+    let same : other.member ≡ one.member = member_same t.members p other.member one.member other.at one.at in
+    let order : d ≡ e = order_same t p d e q r one other in
     one.route_is
     ∙ ap (λ (x : Effect). route_of t.links p (state_in one.member).rows x) order
     ∙ ap (λ (m : Member). route_of t.links p (state_in m).rows e) (sym same)

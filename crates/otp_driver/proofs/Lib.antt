@@ -6,3 +6,5 @@ pub mod Steps
 pub mod Tellings
 pub mod Under
 pub mod Agree
+mod Runs
+mod Nexts

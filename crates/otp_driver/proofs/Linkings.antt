@@ -1,5 +1,5 @@
 -- The links of a tree, as they are awaited.
-use Rattle.std.specs.Prelude.{◌≡◌, ◌+◌, ℕ, List, [], ◌∷◌, ◌++◌, Option, None, Some, ◌≤◌, drop, get_or, length, map, refl, slice_get}
+use Rattle.std.specs.Prelude.{◌≡◌, ◌+◌, ℕ, List, [], ◌∷◌, ◌++◌, Option, None, Some, ◌≤◌, drop, length, map, slice_get}
 use Rattle.std.specs.Option.{option_map}
 use Rattle.std.proofs.Common.{◌∙◌, ap, append_assoc, append-nil, arith, subst, sym}
 use Rattle.std.proofs.lemmas.List.{drop_all, drop_more, length-append, length-map}

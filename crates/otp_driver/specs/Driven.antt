@@ -1,5 +1,5 @@
 -- A tree of supervisors that is driven, and how it goes on (own).
-use Rattle.std.specs.Prelude.{◌≡◌, ℕ, ◌+◌, ◌-◌, ◌^◌, ◌<◌, ◌≤◌, ◌⊎◌, Bool, true, false, List, [], ◌∷◌, Option, Some, None, is_some, ◌||◌, length, map, max, slice_get, slice_index_or, slice_set, if◌then◌else◌, position}
+use Rattle.std.specs.Prelude.{◌≡◌, ℕ, ◌+◌, ◌-◌, ◌^◌, ◌<◌, ◌≤◌, ◌⊎◌, Bool, true, false, List, [], ◌∷◌, Option, Some, None, is_some, ◌||◌, length, max, slice_get, slice_index_or, slice_set, position}
 use Rattle.otp_reason.specs.declared.note.Note.{Note}
 use Rattle.otp_reason.specs.declared.note.Note.TheVariants as note
 use Rattle.otp_rules.specs.declared.call.Call.{Call}
@@ -180,10 +180,11 @@ RefusesStep why t = IsHeldUp why t ⊎ IsPutOff why t
 abbrev pub RefusesMore : DriveFault → Driven → Driven → Type 0
 RefusesMore why old new = RefusesStep why new ⊎ ((why ≡ Spent) × GoesIn (2 ^ 64 - 1) old new)
 
--- at this place an order for the outside is next
+-- at this place, the first that has an order, an order for the outside is next
 pub record IsOutside (t : Driven) (place : ℕ) : Type 0 where
   pub order : Effect
   pub next : IsNext t place order Outside
+  pub first : position has_order t.members ≡ Some place
 
 -- nothing is left to do: all orders were taken, and nothing comes by itself
 pub record IsIdle (t : Driven) : Type 0 where

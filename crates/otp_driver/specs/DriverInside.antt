@@ -1,5 +1,5 @@
 -- What a tree that is driven stands for, and what it keeps.
-use Rattle.std.specs.Prelude.{◌≡◌, ◌<◌, ◌≤◌, length}
+use Rattle.std.specs.Prelude.{◌≡◌, ◌≤◌, length}
 use Rattle.otp_spec.specs.declared.limits.TheConstants.{MAX_READING}
 use Rattle.otp_driver.specs.declared.driver.Driver.TheInside.{Inside}
 use Rattle.otp_driver.specs.Driven.{Driven}

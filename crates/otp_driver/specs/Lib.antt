@@ -6,3 +6,4 @@ pub mod Turns
 pub mod Opened
 pub mod Sessions
 pub mod Agree
+pub mod Runs

@@ -1,5 +1,5 @@
 -- Orders that are taken one by one (own).
-use Rattle.std.specs.Prelude.{◌≡◌, ◌⊎◌, ℕ, Option, Some, None, Result, Ok, Err, slice_get}
+use Rattle.std.specs.Prelude.{◌≡◌, ◌⊎◌, ℕ, Option, Some, None, Result, Ok, Err, position, slice_get}
 use Rattle.otp_rules.specs.declared.call.Answered.{Answered}
 use Rattle.otp_rules.specs.declared.event.Effect.{Effect}
 use Rattle.otp_rules.specs.declared.event.Effect.TheVariants as effect
@@ -11,8 +11,9 @@ use Rattle.otp_driver.specs.declared.order.What.TheVariants as what
 use Rattle.otp_driver.specs.declared.route.Route.TheVariants.{Outside}
 use Rattle.otp_driver.specs.declared.session.Session.{Session}
 use Rattle.otp_driver.specs.Driven.{Driven, GoesOn, IsAt, IsIdle, IsNext, RefusesMore, Takes}
-use Rattle.otp_driven.specs.Members.{Member, state_in}
+use Rattle.otp_driven.specs.Members.{Member, has_order, state_in}
 use Rattle.otp_driver.specs.Orders.{what_of}
+use Rattle.otp_driver.specs.Runs.{AllDone, Comes, Ordered, TakesNext}
 use Rattle.otp_driven.specs.Replies.{IsAnswerTo}
 
 -- the order is what the supervisor at this place orders next
@@ -44,6 +45,8 @@ pub record Readied (place : ℕ) (old new : Session) : Type 0 where
   pub goes_on : GoesOn old.driver new.driver
   pub effect : Effect
   pub next : IsNext new.driver place effect Outside
+  -- no supervisor before it has one
+  pub first : position has_order new.driver.members ≡ Some place
   pub keeps : KeepsAt effect place new.driver old.answer new.answer
 
 -- the tree goes on by itself until an order for the outside is next; that is told, and taken by that
@@ -54,6 +57,8 @@ pub record Told (order : Order) (old new : Session) : Type 0 where
   pub supervisor : order.supervisor ≡ place
   pub effect : Effect
   pub next : IsNext mid place effect Outside
+  -- no supervisor before it has one
+  pub first : position has_order mid.members ≡ Some place
   pub what_is : order.what ≡ what_of (state_in next.member).rows effect
   pub takes : Takes place mid new.driver
   pub keeps : KeepsOf order.what order.supervisor mid old.answer new.answer
@@ -79,3 +84,10 @@ abbrev pub IsReadied : Result (Option ℕ) DriveFault → Session → Session �
 IsReadied (Ok (Some place)) old new = Readied place old new
 IsReadied (Ok None) old new = GoesOn old.driver new.driver × IsIdle new.driver × (new.answer ≡ old.answer)
 IsReadied (Err why) old new = GoesOn old.driver new.driver × (new.answer ≡ old.answer) × RefusesNext why old.driver new.driver
+
+-- each answer to who asks for the next order is what comes of a run in which that is taken
+abbrev pub NextsRun : Type 0
+NextsRun =
+    (old new : Session)
+    → ((order : Order) → NextTold (Ok (Some order)) old new → Comes TakesNext (Ordered order) old.driver new.driver)
+    × (NextTold (Ok None) old new → Comes TakesNext AllDone old.driver new.driver)

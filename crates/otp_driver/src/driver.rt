@@ -263,7 +263,8 @@ impl Driver {
 
     /// Whether the next order of the supervisor at this place is for the outside, as that is seen without its route.
     fn goes_outside(&self, place: usize) -> bool
-        requires { place < length self.now.members }
+        requires place { place < length self.now.members }
+        requires first { position has_order self.now.members ≡ Some place }
         ensures { IsTrue result → IsOutside self.now place }
     {
         let supervisor = &self.supervisors[place];

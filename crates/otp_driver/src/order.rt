@@ -15,7 +15,7 @@ use otp_table::{Row, RowState};
 /// A process outside, as an order names it.
 #[derive(Clone, Copy, Debug, PartialEq, Eq)]
 pub struct Task {
-    /// Its number, which no other process of the tree ever has.
+    /// Its number: processes are numbered upwards, over the whole tree.
     pub number: u64,
     /// The child's id; a dynamic one has none.
     pub id: Option<Name>,

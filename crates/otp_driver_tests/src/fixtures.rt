@@ -91,7 +91,7 @@ pub(crate) fn tell_at(
     }
 }
 
-/// The same as of the last reading.
+/// Tells the supervisor of this number a line as of the last reading.
 pub(crate) fn tell(session: &mut Session, place: usize, line: Line) -> Result<(), DriveFault> {
     let reading = session.driver.reading();
     tell_at(session, reading, place, line)
@@ -220,7 +220,7 @@ pub(crate) fn play_at(
     }
 }
 
-/// The same with the tree of a file, which is opened for that.
+/// Plays lines with the tree of a file, which is opened for that.
 pub(crate) fn plays(rt: &impl Abort, alloc: Global, file: &[u8], steps: &[Step]) {
     let mut session = open(rt, alloc, file);
     play(rt, alloc, &mut session, steps);

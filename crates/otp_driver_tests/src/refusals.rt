@@ -31,7 +31,7 @@ fn refuses(rt: &impl Abort, session: &mut Session, place: usize, line: Line, fau
     same(rt, "the clock after a refusal", after, reading);
 }
 
-/// A reading that is too large is refused before it is looked at who is named.
+/// A reading that is too large is refused first, whoever is named.
 fn refuses_reading(rt: &impl Abort, session: &mut Session, reading: u64, line: Line) {
     let told = tell_at(session, reading, 2, line);
     same(rt, "a reading", told, Err(DriveFault::BadReading));

@@ -15,10 +15,10 @@ use Rattle.otp_trial.specs.Taken.{taken_text}
 use Rattle.otp_ending.specs.declared.ending.Unwritten.{Unwritten}
 use Rattle.otp_ending.specs.declared.ending.Unwritten.TheVariants.{Closed, Since}
 use Rattle.otp_ending.specs.declared.ending.ProgramEnd.{ProgramEnd}
-use Rattle.otp_ending.specs.declared.ending.ProgramEnd.TheVariants.{Done, WordsRefused, NoCommand, WordNotText, FileAsCommand, TreeNotRead, FileNotRead, TreeRefused, NoTree, UnknownStart, NotFound, WrongBody, CloseMismatch, CloseMissing, FaultsFound, LineRefused, ScriptRefused, ScriptMissed, HistoryFull, InputFailed, OutputFailed, OutOfMemory, UnknownClock, NotATime, NeedsFor, CountsTurns, ExpectationFailed, NotFinished, NamesSupervisor, NotAGap, LogRefused, PageNotWritten, RunsNoTrees}
+use Rattle.otp_ending.specs.declared.ending.ProgramEnd.TheVariants.{Done, WordsRefused, NoCommand, WordNotText, FileAsCommand, TreeNotRead, FileNotRead, TreeRefused, NoTree, UnknownStart, NotFound, WrongBody, CloseMismatch, CloseMissing, FaultsFound, LineRefused, ScriptRefused, ScriptMissed, HistoryFull, InputFailed, OutputFailed, OutOfMemory, UnknownClock, NotATime, NeedsFor, CountsTurns, ExpectationFailed, NothingPlayed, NotFinished, NamesSupervisor, NotAGap, LogRefused, PageNotWritten, PageRefused, Refused, RunsNoTrees}
 
 -- 0: done. 1: the tree, or a file. 2: the words. 3: the lines of the input. 4: the machine. 5: a line of a script. 6: what one
--- expects. 7: a run that ran out of turns, or of time to stop
+-- expects. 7: a run that ran out of turns, or of time to stop. 8: a script or a log of which nothing was played
 abbrev pub status_of : ProgramEnd → ℕ
 status_of Done = 0
 status_of WordsRefused = 2
@@ -29,6 +29,7 @@ status_of NotATime = 2
 status_of NeedsFor = 2
 status_of CountsTurns = 2
 status_of FileAsCommand = 2
+status_of (Refused _) = 2
 status_of RunsNoTrees = 2
 status_of TreeNotRead = 1
 status_of FileNotRead = 1
@@ -48,10 +49,12 @@ status_of (LineRefused _) = 3
 status_of (ScriptRefused _ _) = 5
 status_of (ScriptMissed _ _) = 5
 status_of (ExpectationFailed _) = 6
+status_of NothingPlayed = 8
 status_of HistoryFull = 3
 status_of InputFailed = 3
 status_of OutputFailed = 4
 status_of (PageNotWritten _ _) = 4
+status_of (PageRefused _ _) = 2
 status_of OutOfMemory = 4
 
 -- a line of a script, and what is wrong with it
@@ -90,6 +93,14 @@ said_text name said why = (codes "error: " ++ name ++ said) ++ why ++ codes "\n"
 abbrev pub not_written_text : List ℕ → List ℕ → List ℕ
 not_written_text name why = said_text name (codes " can't be written: ") why
 
+-- a page that may not be, and why
+abbrev pub not_replaced_text : List ℕ → List ℕ → List ℕ
+not_replaced_text name why = said_text name (codes " isn't replaced: ") why
+
+-- words that are refused for this reason
+abbrev pub refused_text : List ℕ → List ℕ
+refused_text why = codes "error: " ++ why ++ codes "\n"
+
 -- the line on standard error, its end included: none where all went well, where it was told before why the words
 -- are refused, a file can't be read or a run isn't finished, or where faults were written to the output
 abbrev pub sentence_of : ProgramEnd → List ℕ
@@ -102,6 +113,7 @@ sentence_of NotATime = codes "error: --for and --grace want a time, as 500ms, 2s
 sentence_of NeedsFor = codes "error: --grace and --log need --for TIME\n"
 sentence_of CountsTurns = codes "error: --counts is of a run by turns, and --for is none\n"
 sentence_of FileAsCommand = codes "error: a file in the place of a command: say otp try FILE, or otp --help\n"
+sentence_of (Refused why) = refused_text why.now
 sentence_of RunsNoTrees = codes "error: this program runs no trees; ./otp run FILE compiles the one that does\n"
 sentence_of TreeNotRead = codes "tree not read\n"
 sentence_of FileNotRead = []
@@ -121,10 +133,12 @@ sentence_of (LineRefused line) = codes "line " ++ decimal line ++ codes " refuse
 sentence_of (ScriptRefused line why) = line_text line (fault_text why)
 sentence_of (ScriptMissed line why) = line_text line (taken_text why)
 sentence_of (ExpectationFailed line) = line_text line (codes "it is not so as the script expects")
+sentence_of NothingPlayed = codes "error: nothing was played: no line says what happens\n"
 sentence_of HistoryFull = codes "history full\n"
 sentence_of InputFailed = codes "input not read\n"
 sentence_of OutputFailed = codes "output not written\n"
 sentence_of (PageNotWritten name why) = not_written_text name.now why.now
+sentence_of (PageRefused name why) = not_replaced_text name.now why.now
 sentence_of OutOfMemory = codes "out of memory\n"
 
 -- the same where it is known why the output last failed: that is told, and nothing where nobody reads it any more

@@ -5,7 +5,7 @@ use Rattle.std.specs.Io.KnownBytes.{Appends}
 use Rattle.otp_sim.specs.Devices.{Written}
 use Rattle.otp_ending.specs.Statuses.{sentence_since}
 use Rattle.otp_ending.specs.declared.ending.ProgramEnd.{ProgramEnd}
-use Rattle.otp_ending.specs.declared.ending.ProgramEnd.TheVariants.{Done, WordsRefused, TreeNotRead, FileNotRead, TreeRefused, UnknownStart, WrongBody, FaultsFound, OutputFailed, OutOfMemory, NotFinished, LineRefused, PageNotWritten}
+use Rattle.otp_ending.specs.declared.ending.ProgramEnd.TheVariants.{Done, WordsRefused, TreeNotRead, FileNotRead, TreeRefused, UnknownStart, WrongBody, FaultsFound, OutputFailed, OutOfMemory, NotFinished, LineRefused, PageNotWritten, PageRefused}
 use Rattle.otp_ending.specs.declared.ending.Unwritten.{Unwritten}
 use Rattle.otp_ending.specs.declared.files.TheConstants.{LARGEST_TREE}
 
@@ -57,6 +57,7 @@ IsSmall file = length file ≤ LARGEST_TREE
 abbrev pub IsUnreadEnd : ProgramEnd → Type 0
 IsUnreadEnd ending = (ending ≡ TreeNotRead) ⊎ ((ending ≡ FileNotRead) ⊎ (ending ≡ OutOfMemory))
 
--- the page of this name can't be written
+-- the page of this name can't be written, or may not be
 abbrev pub IsUnkept : Bor (List ℕ) → ProgramEnd → Type 0
-IsUnkept name ending = ((why : Bor (List ℕ)) × (ending ≡ PageNotWritten name why)) ⊎ (ending ≡ OutOfMemory)
+IsUnkept name ending =
+    ((why : Bor (List ℕ)) × ((ending ≡ PageNotWritten name why) ⊎ (ending ≡ PageRefused name why))) ⊎ (ending ≡ OutOfMemory)

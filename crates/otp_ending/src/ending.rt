@@ -4,7 +4,7 @@ ghost use Rattle.std.specs.Prelude.{Bool, ◌≡◌, ◌⊎◌, ◌≤◌, ◌<�
 ghost use Rattle.std.specs.IoError.{error_kind};
 ghost use Rattle.std.specs.Io.KnownBytes.{Appends};
 ghost use Rattle.otp_ending.specs.Told.{IsTold, TellsFirst, goes_on, worse};
-ghost use Rattle.otp_ending.specs.Statuses.{IsOfFile, ending_of_no_tree, ending_of_tree, line_text, log_text, names_supervisor_text, no_gap_text, no_tree_text, not_found_text, not_written_text, said_text, sentence_of, status_of, sentence_since};
+ghost use Rattle.otp_ending.specs.Statuses.{IsOfFile, ending_of_no_tree, ending_of_tree, line_text, log_text, names_supervisor_text, no_gap_text, no_tree_text, not_found_text, not_replaced_text, not_written_text, refused_text, said_text, sentence_of, status_of, sentence_since};
 ghost use Rattle.otp_ending.specs.declared.ending.ProgramEnd.TheVariants.{OutOfMemory, TreeNotRead};
 
 use crate::files::{write_three, write_two};
@@ -40,6 +40,8 @@ pub enum ProgramEnd<'a> {
     CountsTurns,
     /// The words are a file's name, where a command is wanted.
     FileAsCommand,
+    /// The words are refused for this reason.
+    Refused(&'static str),
     /// The words ask to run a tree, of a program that runs none.
     RunsNoTrees,
     /// The tree file of `sim` can't be read.
@@ -79,12 +81,16 @@ pub enum ProgramEnd<'a> {
     ScriptMissed(u64, ActionEnd),
     /// A script was played, and what the line with this number expected was not so, the first of such lines.
     ExpectationFailed(u64),
+    /// No line of a script or a log was played.
+    NothingPlayed,
     /// There were 2^62 events, as many as a supervisor has in its life.
     HistoryFull,
     InputFailed,
     OutputFailed,
     /// The page of this name can't be written, and why.
     PageNotWritten(&'a str, &'static str),
+    /// The page of this name may not be written, and why.
+    PageRefused(&'a str, &'static str),
     OutOfMemory,
 }
 
@@ -101,7 +107,7 @@ impl<'a> ProgramEnd<'a> {
             ProgramEnd::FileNotRead | ProgramEnd::FaultsFound => 1,
             ProgramEnd::WordsRefused | ProgramEnd::NoCommand | ProgramEnd::WordNotText => 2,
             ProgramEnd::FileAsCommand | ProgramEnd::NotFound(_) | ProgramEnd::UnknownClock => 2,
-            ProgramEnd::RunsNoTrees => 2,
+            ProgramEnd::RunsNoTrees | ProgramEnd::Refused(_) | ProgramEnd::PageRefused(..) => 2,
             ProgramEnd::NotATime | ProgramEnd::NeedsFor | ProgramEnd::CountsTurns => 2,
             ProgramEnd::NamesSupervisor(_) | ProgramEnd::NotAGap(..) => 2,
             ProgramEnd::LogRefused(..) => 2,
@@ -112,6 +118,7 @@ impl<'a> ProgramEnd<'a> {
             ProgramEnd::ScriptRefused(..) | ProgramEnd::ScriptMissed(..) => 5,
             ProgramEnd::ExpectationFailed(_) => 6,
             ProgramEnd::NotFinished => 7,
+            ProgramEnd::NothingPlayed => 8,
         }
     }
 
@@ -145,7 +152,7 @@ impl<'a> ProgramEnd<'a> {
         }
     }
 
-    /// The same of a command whose user is told who explains the fault.
+    /// The end for a tree that is not had, of a command whose user is told who explains the fault.
     pub fn of_no_tree(fault: TreeFault, name: &'a str) -> Self
         ensures { result ≡ ending_of_no_tree fault name.entry }
     {
@@ -256,6 +263,7 @@ fn write_sentence<E: Output>(errors: &mut E, ending: ProgramEnd<'_>) -> Result<(
             errors,
             b"error: a file in the place of a command: say otp try FILE, or otp --help\n",
         ),
+        ProgramEnd::Refused(why) => write_refused(errors, why),
         ProgramEnd::RunsNoTrees => write_all(
             errors,
             b"error: this program runs no trees; ./otp run FILE compiles the one that does\n",
@@ -273,6 +281,7 @@ fn write_sentence<E: Output>(errors: &mut E, ending: ProgramEnd<'_>) -> Result<(
         ProgramEnd::NotAGap(word, fault) => write_no_gap(errors, word, fault.text()),
         ProgramEnd::LogRefused(name, fault) => write_log_fault(errors, name, fault),
         ProgramEnd::PageNotWritten(name, why) => write_not_written(errors, name, why),
+        ProgramEnd::PageRefused(name, why) => write_not_replaced(errors, name, why),
         ProgramEnd::CloseMismatch => write_all(errors, b"close refused: E17\n"),
         ProgramEnd::CloseMissing => write_all(errors, b"close refused: E20\n"),
         ProgramEnd::WrongBody => write_all(errors, b"tree refused: E19\n"),
@@ -282,6 +291,10 @@ fn write_sentence<E: Output>(errors: &mut E, ending: ProgramEnd<'_>) -> Result<(
         ProgramEnd::ExpectationFailed(line) => {
             write_line_fault(errors, line, "it is not so as the script expects")
         }
+        ProgramEnd::NothingPlayed => write_all(
+            errors,
+            b"error: nothing was played: no line says what happens\n",
+        ),
         ProgramEnd::HistoryFull => write_all(errors, b"history full\n"),
         ProgramEnd::InputFailed => write_all(errors, b"input not read\n"),
         ProgramEnd::OutputFailed => write_all(errors, b"output not written\n"),
@@ -377,6 +390,29 @@ fn write_not_written<E: Output>(errors: &mut E, name: &str, why: &str) -> Result
         b" can't be written: ",
         why.as_bytes(),
     )
+}
+
+/// Writes which page may not be written, and why.
+fn write_not_replaced<E: Output>(errors: &mut E, name: &str, why: &str) -> Result<(), Failed>
+    ensures ok { OnOk result (Appends (E.seen errors.old).bytes (E.seen errors.new).bytes (not_replaced_text name.now why.now)) }
+    ensures kept { (E.seen errors.old).failures ≤ (E.seen errors.new).failures }
+    ensures failed { OnErr result ((E.seen errors.old).failures < (E.seen errors.new).failures) }
+{
+    write_said_of(
+        errors,
+        name.as_bytes(),
+        b" isn't replaced: ",
+        why.as_bytes(),
+    )
+}
+
+/// Writes why words are refused.
+fn write_refused<E: Output>(errors: &mut E, why: &str) -> Result<(), Failed>
+    ensures ok { OnOk result (Appends (E.seen errors.old).bytes (E.seen errors.new).bytes (refused_text why.now)) }
+    ensures kept { (E.seen errors.old).failures ≤ (E.seen errors.new).failures }
+    ensures failed { OnErr result ((E.seen errors.old).failures < (E.seen errors.new).failures) }
+{
+    write_three(errors, b"error: ", why.as_bytes(), b"\n")
 }
 
 /// Writes what is wrong with a line of a script.

@@ -1,34 +1,44 @@
 //! The files that the program reads, and the pages that it writes.
 
-ghost use Rattle.std.specs.Prelude.{Bool, ◌≡◌, ◌≤◌, ◌<◌, ◌++◌, ◌⊎◌, IfErr, IfOk, OnOk, OnErr, codes, vec_len};
+ghost use Rattle.std.specs.Prelude.{Bool, ◌≡◌, ◌≤◌, ◌<◌, ◌++◌, ◌⊎◌, true, false, None, IfErr, IfOk, OnOk, OnErr, codes, vec_len};
 ghost use Rattle.std.specs.Io.KnownBytes.{Appends};
-ghost use Rattle.otp_ending.specs.Devices.{Files};
+ghost use Rattle.otp_ending.specs.Devices.{Files, IsApart, MayWrite};
 ghost use Rattle.otp_ending.specs.Told.{IsUnkept, IsUnreadEnd, TellsFirst};
 ghost use Rattle.otp_ending.specs.Statuses.{not_read_text};
-ghost use Rattle.otp_ending.specs.declared.files.TheConstants.{LARGEST_TREE};
-ghost use Rattle.otp_ending.specs.declared.ending.ProgramEnd.TheVariants.{FileNotRead, OutOfMemory};
+ghost use Rattle.otp_ending.specs.declared.files.TheConstants.{LARGEST_FILE, LARGEST_TREE};
+ghost use Rattle.otp_ending.specs.declared.ending.ProgramEnd.TheVariants.{FileNotRead, OutOfMemory, TreeNotRead};
 
 use crate::ending::{ProgramEnd, Unwritten};
 use otp_sim::{Failed, Output, write_all};
 use std::io;
 use std::io::ErrorKind;
 
-/// The most bytes of a tree file for `check`, `try`, `tree` and `limits`: 1 MiB. What is
-/// parsed takes many times the memory of its file.
+/// The most bytes of a script, and of a tree file but for `sim` and `run`: 1 MiB. What is parsed takes many times the memory of its
+/// file.
 pub const LARGEST_TREE: usize = 1_048_576;
+
+/// The most bytes of any other file, a log or the tree of `sim` and `run`: 256 MiB. A file that has no end is refused after that.
+pub const LARGEST_FILE: usize = 268_435_456;
 
 /// Why a file that is larger is not parsed.
 const TOO_LARGE: &str = "it has more than 1048576 bytes, too many for a tree file";
 
+/// Why a script that is larger is not played.
+const TOO_LARGE_A_SCRIPT: &str = "it has more than 1048576 bytes, too many for a script";
+
+/// Why a log that is larger is not replayed.
+const TOO_LARGE_A_LOG: &str =
+    "it has more than 268435456 bytes, too many for a log; keep the lines of children alone";
+
 /// Why more of standard input is not taken whole.
-const TOO_LONG: &str = "it has more than 1048576 bytes, which a file may have";
+const TOO_LONG: &str = "it has more than 1048576 bytes, too many for standard input; name a file";
 
 /// Where tree files are read from, and pages are written to.
 pub trait TreeFiles {
     /// What is known of files by their names: what bytes one may hold, and what of one to which such bytes were written.
     ghost known: { Self → Files };
 
-    /// The bytes of a file.
+    /// The bytes of a file. Of more than [`LARGEST_FILE`] not all are read.
     fn read(&self, name: &str) -> io::Result<Vec<u8>>
         ensures { IfOk result (λ file. (known self.now).holds name.now file.items) };
 
@@ -40,8 +50,17 @@ pub trait TreeFiles {
     fn read_input(&self) -> io::Result<Vec<u8>>
         ensures { IfOk result (λ file. (known self.now).holds (codes "-") file.items) };
 
+    /// Whether two names are of one file, by whatever links. The name `-` is standard input.
+    fn are_one(&self, name: &str, other: &str) -> bool
+        ensures { result ≡ false → (known self.now).are_apart name.now other.now };
+
+    /// Whether nothing is lost where the file of this name is written anew: there is none, or what it holds may go.
+    fn is_free(&self, name: &str) -> bool
+        ensures { result ≡ true → (known self.now).is_free name.now };
+
     /// Writes these bytes to the file of this name, and nothing of what it held stays.
     fn write(&self, name: &str, bytes: &[u8]) -> io::Result<()>
+        requires { (known self.now).is_free name.now }
         ensures { OnOk result ((known self.now).keeps name.now bytes.now) };
 
     /// Whether somebody writes the lines of standard input at a terminal.
@@ -67,7 +86,7 @@ fn read_named<F: TreeFiles>(files: &F, name: &str) -> io::Result<Vec<u8>>
     }
 }
 
-/// The same of a tree file, of which no more bytes are read than show that it has too many.
+/// The bytes of the tree file of this name, of which no more are read than show that it has too many; `-` is standard input.
 fn read_tree_named<F: TreeFiles>(files: &F, name: &str) -> io::Result<Vec<u8>>
     ensures { IfOk result (λ file. (F.known files.now).holds name.now file.items) }
 {
@@ -77,25 +96,45 @@ fn read_tree_named<F: TreeFiles>(files: &F, name: &str) -> io::Result<Vec<u8>>
     }
 }
 
-/// The bytes of a file; `-` is standard input.
+/// The bytes of a script, of which there are at most [`LARGEST_TREE`]; `-` is standard input.
 ///
 /// # Errors
 ///
-/// [`ProgramEnd::FileNotRead`], once it is told on `errors` which file can't be read and why, and [`ProgramEnd::OutOfMemory`].
-pub fn read_file<'a, F: TreeFiles, E: Output>(
+/// Those of [`read_tree_file`].
+pub fn read_script<'a, F: TreeFiles, E: Output>(
     files: &F,
     name: &'a str,
     errors: &mut E,
 ) -> Result<Vec<u8>, ProgramEnd<'a>>
     ensures holds { IfOk result (λ file. (F.known files.now).holds name.now file.items) }
+    ensures small { IfOk result (λ file. vec_len file ≤ LARGEST_TREE) }
     ensures silent { OnOk result (errors.new ≡ errors.old) }
     ensures ending { IfErr result (λ ending. (ending ≡ FileNotRead) ⊎ (ending ≡ OutOfMemory)) }
     ensures first { IfErr result (λ ending. (drawn : Bool) → TellsFirst drawn ending (E.seen errors.old) (E.seen errors.new)) }
     ensures kept { (E.seen errors.old).failures ≤ (E.seen errors.new).failures }
 {
-    match read_named(files, name) {
+    read_told(files, name, TOO_LARGE_A_SCRIPT, errors)
+}
+
+/// The bytes of a file, of which there are at most [`LARGEST_TREE`]. Else which file can't be read is told, and why; where it is
+/// larger, for this reason.
+fn read_told<'a, F: TreeFiles, E: Output>(
+    files: &F,
+    name: &'a str,
+    too_large: &'static str,
+    errors: &mut E,
+) -> Result<Vec<u8>, ProgramEnd<'a>>
+    ensures holds { IfOk result (λ file. (F.known files.now).holds name.now file.items) }
+    ensures small { IfOk result (λ file. vec_len file ≤ LARGEST_TREE) }
+    ensures silent { OnOk result (errors.new ≡ errors.old) }
+    ensures ending { IfErr result (λ ending. (ending ≡ FileNotRead) ⊎ (ending ≡ OutOfMemory)) }
+    ensures first { IfErr result (λ ending. (drawn : Bool) → TellsFirst drawn ending (E.seen errors.old) (E.seen errors.new)) }
+    ensures kept { (E.seen errors.old).failures ≤ (E.seen errors.new).failures }
+{
+    match read_up_to(files, name, too_large) {
         Ok(file) => Ok(file),
-        Err(error) => Err(tell_error(errors, name, &error)),
+        Err(Unread::OutOfMemory) => Err(ProgramEnd::OutOfMemory),
+        Err(Unread::Since(why)) => Err(tell_not_read(errors, name, why)),
     }
 }
 
@@ -103,7 +142,8 @@ pub fn read_file<'a, F: TreeFiles, E: Output>(
 ///
 /// # Errors
 ///
-/// Those of [`read_file`], and [`ProgramEnd::FileNotRead`] where it is larger, once that is told.
+/// [`ProgramEnd::FileNotRead`], once it is told on `errors` which file can't be read and why, or that it is larger; and
+/// [`ProgramEnd::OutOfMemory`].
 pub fn read_tree_file<'a, F: TreeFiles, E: Output>(
     files: &F,
     name: &'a str,
@@ -116,25 +156,22 @@ pub fn read_tree_file<'a, F: TreeFiles, E: Output>(
     ensures first { IfErr result (λ ending. (drawn : Bool) → TellsFirst drawn ending (E.seen errors.old) (E.seen errors.new)) }
     ensures kept { (E.seen errors.old).failures ≤ (E.seen errors.new).failures }
 {
-    match read_small(files, name) {
-        Ok(file) => Ok(file),
-        Err(Unread::OutOfMemory) => Err(ProgramEnd::OutOfMemory),
-        Err(Unread::Since(why)) => Err(tell_not_read(errors, name, why)),
-    }
+    read_told(files, name, TOO_LARGE, errors)
 }
 
-/// The bytes of a log, or of a script that is taken whole. Standard input, which is the file `-`, may be no longer than a tree file, since no more of it is taken; a
-/// file may have any length.
+/// The bytes of a log, of which there are at most [`LARGEST_FILE`]. Standard input, which is the file `-`, may be no longer than a
+/// tree file, since no more of it is taken.
 ///
 /// # Errors
 ///
-/// Those of [`read_file`], and [`ProgramEnd::FileNotRead`] where standard input is longer, once that is told.
+/// Those of [`read_tree_file`].
 pub fn read_log<'a, F: TreeFiles, E: Output>(
     files: &F,
     name: &'a str,
     errors: &mut E,
 ) -> Result<Vec<u8>, ProgramEnd<'a>>
     ensures holds { IfOk result (λ log. (F.known files.now).holds name.now log.items) }
+    ensures large { IfOk result (λ log. vec_len log ≤ LARGEST_FILE) }
     ensures silent { OnOk result (errors.new ≡ errors.old) }
     ensures ending { IfErr result (λ ending. (ending ≡ FileNotRead) ⊎ (ending ≡ OutOfMemory)) }
     ensures first { IfErr result (λ ending. (drawn : Bool) → TellsFirst drawn ending (E.seen errors.old) (E.seen errors.new)) }
@@ -144,11 +181,77 @@ pub fn read_log<'a, F: TreeFiles, E: Output>(
         Ok(log) => log,
         Err(error) => return Err(tell_error(errors, name, &error)),
     };
-    if name == "-" && log.len() > LARGEST_TREE {
-        drop(log);
-        return Err(tell_not_read(errors, name, TOO_LONG));
+    match why_too_long(name, log.len()) {
+        None => Ok(log),
+        Some(why) => {
+            drop(log);
+            Err(tell_not_read(errors, name, why))
+        }
     }
-    Ok(log)
+}
+
+/// Why a log of this name and length isn't replayed, if it isn't.
+fn why_too_long(name: &str, length: usize) -> Option<&'static str>
+    ensures { result ≡ None → length ≤ LARGEST_FILE }
+{
+    if name == "-" && length > LARGEST_TREE {
+        return Some(TOO_LONG);
+    }
+    if length > LARGEST_FILE {
+        Some(TOO_LARGE_A_LOG)
+    } else {
+        None
+    }
+}
+
+/// Why a page doesn't take the place of a file that is read.
+const IS_READ: &str = "it is read here; name another page";
+
+/// Why a page doesn't take the place of another file.
+const NO_PAGE: &str = "it holds something else than a page; remove it first, or name another page";
+
+/// The end where the page of this name may not be written, for this reason.
+fn end_refused<'a>(name: &'a str, why: &'static str) -> ProgramEnd<'a>
+    ensures { IsUnkept name.entry result }
+{
+    ProgramEnd::PageRefused(name, why)
+}
+
+/// Whether a file is another one than that of this name, if one is named.
+fn is_apart<F: TreeFiles>(files: &F, page: &str, input: Option<&str>) -> bool
+    ensures { result ≡ true → IsApart (F.known files.now) page.now input.entry }
+{
+    match input {
+        None => true,
+        Some(input) => !files.are_one(page, input),
+    }
+}
+
+/// Asks whether a page may be written to the file of this name: it is none of the files that are read, and nothing else is lost.
+///
+/// # Errors
+///
+/// [`ProgramEnd::PageRefused`] with the reason.
+pub fn ask_page<'a, F: TreeFiles>(
+    files: &F,
+    name: &'a str,
+    file: &str,
+    script: Option<&str>,
+) -> Result<(), ProgramEnd<'a>>
+    ensures may { OnOk result (MayWrite (F.known files.now) name.now file.now script.entry) }
+    ensures ending { IfErr result (IsUnkept name.entry) }
+{
+    if files.are_one(name, file) {
+        return Err(end_refused(name, IS_READ));
+    }
+    if !is_apart(files, name, script) {
+        return Err(end_refused(name, IS_READ));
+    }
+    if files.is_free(name) {
+        Ok(())
+    } else {
+        Err(end_refused(name, NO_PAGE))
+    }
 }
 
 /// Writes a page to the file of this name, anew.
@@ -161,6 +264,7 @@ pub fn write_page<'a, F: TreeFiles>(
     name: &'a str,
     page: &[u8],
 ) -> Result<(), ProgramEnd<'a>>
+    requires free { (F.known files.now).is_free name.now }
     ensures kept { OnOk result ((F.known files.now).keeps name.now page.now) }
     ensures ending { IfErr result (IsUnkept name.entry) }
 {
@@ -211,12 +315,24 @@ pub fn read_small<F: TreeFiles>(files: &F, name: &str) -> Result<Vec<u8>, Unread
     ensures holds { IfOk result (λ file. (F.known files.now).holds name.now file.items) }
     ensures small { IfOk result (λ file. vec_len file ≤ LARGEST_TREE) }
 {
+    read_up_to(files, name, TOO_LARGE)
+}
+
+/// The bytes of a file of which there are at most [`LARGEST_TREE`]; more are refused for this reason.
+fn read_up_to<F: TreeFiles>(
+    files: &F,
+    name: &str,
+    too_large: &'static str,
+) -> Result<Vec<u8>, Unread>
+    ensures holds { IfOk result (λ file. (F.known files.now).holds name.now file.items) }
+    ensures small { IfOk result (λ file. vec_len file ≤ LARGEST_TREE) }
+{
     let file = match read_tree_named(files, name) {
         Ok(file) => file,
         Err(error) => return Err(why_unread(error.kind())),
     };
     if file.len() > LARGEST_TREE {
-        return Err(Unread::Since(TOO_LARGE));
+        return Err(Unread::Since(too_large));
     }
     Ok(file)
 }
@@ -229,8 +345,30 @@ fn why_unread(kind: ErrorKind) -> Unread {
     }
 }
 
+/// The bytes of the tree file of `sim`, or of a file that is run, of which there are at most [`LARGEST_FILE`]. It isn't told why they
+/// can't be read.
+///
+/// # Errors
+///
+/// [`ProgramEnd::TreeNotRead`] and [`ProgramEnd::OutOfMemory`].
+pub fn read_large<'a, F: TreeFiles>(files: &F, name: &str) -> Result<Vec<u8>, ProgramEnd<'a>>
+    ensures holds { IfOk result (λ file. (F.known files.now).holds name.now file.items) }
+    ensures large { IfOk result (λ file. vec_len file ≤ LARGEST_FILE) }
+    ensures ending { IfErr result (λ ending. (ending ≡ TreeNotRead) ⊎ (ending ≡ OutOfMemory)) }
+{
+    let file = match files.read(name) {
+        Ok(file) => file,
+        Err(error) => return Err(ProgramEnd::of_file(&error)),
+    };
+    if file.len() > LARGEST_FILE {
+        drop(file);
+        return Err(ProgramEnd::TreeNotRead);
+    }
+    Ok(file)
+}
+
 /// The bytes of a tree file that is run. Standard input, which is the file `-`, is read as by [`read_tree_file`], since no
-/// more of it is taken than a tree may have; a file may have any size, and it isn't told why it can't be read.
+/// more of it is taken than a tree may have; any other file as by [`read_large`].
 ///
 /// # Errors
 ///
@@ -249,10 +387,7 @@ pub fn read_run_file<'a, F: TreeFiles, E: Output>(
     if let b"-" = name.as_bytes() {
         return read_tree_file(files, name, errors);
     }
-    match files.read(name) {
-        Ok(file) => Ok(file),
-        Err(error) => Err(ProgramEnd::of_file(&error)),
-    }
+    read_large(files, name)
 }
 
 /// The end where a file can't be read, once it is told which and why, if not for want of memory.

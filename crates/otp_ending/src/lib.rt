@@ -7,6 +7,6 @@ pub mod files;
 
 pub use ending::{ProgramEnd, Unwritten, explain, tell, write_numbered};
 pub use files::{
-    LARGEST_TREE, TreeFiles, Unread, read_file, read_log, read_run_file, read_small,
-    read_tree_file, write_page, write_three,
+    LARGEST_FILE, LARGEST_TREE, TreeFiles, Unread, ask_page, read_large, read_log, read_run_file,
+    read_script, read_small, read_tree_file, write_page, write_three,
 };

@@ -55,7 +55,7 @@ fn spec_with(index: usize, id: Name, start: Name, table: &Table) -> Result<Child
     Ok(spec)
 }
 
-/// The same, whatever stands at `tree`.
+/// The specification with these two names that a table says, whatever stands at `tree`.
 fn plain_spec(index: usize, id: Name, start: Name, table: &Table) -> Result<ChildSpec, TreeFault>
     ensures { result
         ≡ answer_of (plain_faults index (table_view table.now)) (spec_with id start (table_view table.now)) }

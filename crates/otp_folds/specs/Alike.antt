@@ -1,5 +1,5 @@
 -- Which children of a supervisor are taken together (own).
-use Rattle.std.specs.Prelude.{Bool, true, false, not, ◌&&◌, if◌then◌else◌}
+use Rattle.std.specs.Prelude.{Bool, true, false, not, ◌&&◌, ◌==◌, if◌then◌else◌}
 use Rattle.std.specs.Ordering.{on}
 use Rattle.std.specs.Str.{bytes_eq}
 use Rattle.otp_reason.specs.Names.{name_bytes}
@@ -7,6 +7,7 @@ use Rattle.otp_spec.specs.Words.{restart_word, type_word}
 use Rattle.otp_spec.specs.declared.child.ChildSpec.{ChildSpec}
 use Rattle.otp_spec.specs.declared.flags.Strategy.{Strategy}
 use Rattle.otp_spec.specs.declared.flags.Strategy.TheVariants.{OneForOne, OneForAll, RestForOne, SimpleOneForOne}
+use Rattle.otp_folds.specs.declared.alike.Weighed.{Weighed}
 use Rattle.otp_folds.specs.declared.alike.Grain.{Grain}
 use Rattle.otp_folds.specs.declared.alike.Grain.TheVariants.{Alike, Each}
 
@@ -34,6 +35,7 @@ unfoldable pub takes_together : Grain → Strategy → Bool
 takes_together Alike strategy = has_no_places strategy
 takes_together Each strategy = false
 
--- whether the second is taken together with the first
-unfoldable pub is_alike : Grain → Strategy → ChildSpec → ChildSpec → Bool
-is_alike grain strategy a b = if takes_together grain strategy then is_same_kind a b else on name_bytes bytes_eq a.id b.id
+-- whether the second is taken together with the first: as many processes stand below it
+unfoldable pub is_alike : Grain → Strategy → Weighed → Weighed → Bool
+is_alike grain strategy a b =
+    if takes_together grain strategy then is_same_kind a.spec b.spec && (a.below == b.below) else on name_bytes bytes_eq a.spec.id b.spec.id

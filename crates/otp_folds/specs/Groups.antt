@@ -5,39 +5,39 @@ use Rattle.std.specs.Str.{bytes_eq}
 use Rattle.otp_reason.specs.declared.name.Name.{Name}
 use Rattle.otp_reason.specs.Names.{name_bytes}
 use Rattle.otp_limits.specs.Falls.{supervisor_path}
-use Rattle.otp_spec.specs.declared.child.ChildSpec.{ChildSpec}
+use Rattle.otp_folds.specs.declared.alike.Weighed.{Weighed}
 use Rattle.otp_folds.specs.declared.group.Group.{Group}
 use Rattle.otp_folds.specs.declared.pick.Pick.{Pick}
 use Rattle.otp_folds.specs.declared.pick.Pick.TheVariants as pick
 
 -- the name of a child, where it is taken together with that one
-abbrev pub name_if : Bool → ChildSpec → Option Name
-name_if false spec = None
-name_if true spec = Some spec.id
+abbrev pub name_if : Bool → Weighed → Option Name
+name_if false child = None
+name_if true child = Some child.spec.id
 
 -- the names of those that are taken together with a child, itself among them, in start order
-abbrev pub names_with : (ChildSpec → Bool) → List ChildSpec → List Name
-names_with is_with specs = filter_map (λ spec. name_if (is_with spec) spec) specs
+abbrev pub names_with : (Weighed → Bool) → List Weighed → List Name
+names_with is_with children = filter_map (λ child. name_if (is_with child) child) children
 
 -- a group with a child at its head, unless an earlier group has it
-unfoldable pub group_if : Bool → (ChildSpec → Bool) → List ChildSpec → ChildSpec → List Group
-group_if true is_with all spec = []
-group_if false is_with all spec = record { first = spec.id; names = names_with is_with all } ∷ []
+unfoldable pub group_if : Bool → (Weighed → Bool) → List Weighed → Weighed → List Group
+group_if true is_with all child = []
+group_if false is_with all child = record { first = child.spec.id; names = names_with is_with all } ∷ []
 
-unfoldable pub heads_after : Bool → List ChildSpec → ChildSpec → List ChildSpec
-heads_after true heads spec = heads
-heads_after false heads spec = heads ++ spec ∷ []
+unfoldable pub heads_after : Bool → List Weighed → Weighed → List Weighed
+heads_after true heads child = heads
+heads_after false heads child = heads ++ child ∷ []
 
 -- the groups of these children of a supervisor that has all of those, where groups with these heads were found before
-abbrev pub groups_from : (ChildSpec → ChildSpec → Bool) → List ChildSpec → List ChildSpec → List ChildSpec → List Group
+abbrev pub groups_from : (Weighed → Weighed → Bool) → List Weighed → List Weighed → List Weighed → List Group
 groups_from alike all heads [] = []
-groups_from alike all heads (spec ∷ specs) =
-    group_if (list_any (alike spec) heads) (alike spec) all spec
-    ++ groups_from alike all (heads_after (list_any (alike spec) heads) heads spec) specs
+groups_from alike all heads (child ∷ children) =
+    group_if (list_any (alike child) heads) (alike child) all child
+    ++ groups_from alike all (heads_after (list_any (alike child) heads) heads child) children
 
 -- the children of a supervisor, those together that are alike
-abbrev pub groups : (ChildSpec → ChildSpec → Bool) → List ChildSpec → List Group
-groups alike specs = groups_from alike specs [] specs
+abbrev pub groups : (Weighed → Weighed → Bool) → List Weighed → List Group
+groups alike children = groups_from alike children [] children
 
 -- the name of a child of a supervisor with this path
 abbrev pub below : List ℕ → Name → List ℕ

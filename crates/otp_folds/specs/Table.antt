@@ -1,5 +1,5 @@
 -- Limits of a tree as text: a line for each row, and then what a crash of each stops, starts again and ends (own).
-use Rattle.std.specs.Prelude.{◌≡◌, ℕ, ◌+◌, ◌-◌, Bool, true, false, List, [], ◌∷◌, ◌++◌, length, codes, decimal, drop, replicate, take, nat_le, nat_lt, min, if◌then◌else◌}
+use Rattle.std.specs.Prelude.{◌≡◌, ℕ, ◌+◌, ◌-◌, Bool, true, false, List, [], ◌∷◌, ◌++◌, length, codes, decimal, drop, replicate, take, nat_le, nat_lt, min, ◌==◌, ◌&&◌, if◌then◌else◌}
 use Rattle.std.specs.List.{flat_map}
 use Rattle.otp_reason.specs.declared.name.Name.{Name}
 use Rattle.otp_limits.specs.Falls.{supervisor_path}
@@ -60,8 +60,8 @@ row_text alone row =
     title_text (names_width alone) (title_of row)
     ++ at_right 7 (burst_text row.own.burst)
     ++ at_right 14 (interval_text row.own.burst row.own.steady)
-    ++ at_right 7 (decimal (length row.own.stops))
-    ++ at_right 8 (decimal (length row.own.starts))
+    ++ at_right 7 (decimal row.stopped)
+    ++ at_right 8 (decimal row.started)
     ++ root_column alone row.root
     ++ codes "  "
     ++ giver_text row.path row.own.burst
@@ -124,9 +124,19 @@ ends_text false (path ∷ paths) = codes "  ends  " ++ supervisors_text 8 (path 
 unfoldable pub crash_text : Row → List ℕ
 crash_text row = codes "a crash of " ++ clip 69 (below row.path row.own.id) ++ codes "\n"
 
+unfoldable pub named_text : ℕ → Row → List ℕ
+named_text most row =
+    list_text most (codes "  stops ") row.path row.own.stops ++ list_text most (codes "  starts") row.path row.own.starts
+
+-- and how many processes below these children, if there are some
+unfoldable pub below_text : ℕ → ℕ → List ℕ
+below_text stops starts =
+    if (stops == 0) && (starts == 0) then []
+    else codes "  below  " ++ decimal stops ++ codes " stop, " ++ decimal starts ++ codes " start\n"
+
 unfoldable pub affected_text : ℕ → Row → List ℕ
 affected_text most row =
-    list_text most (codes "  stops ") row.path row.own.stops ++ list_text most (codes "  starts") row.path row.own.starts
+    named_text most row ++ below_text (row.stopped - length row.own.stops) (row.started - length row.own.starts)
 
 unfoldable pub rest_text : Bool → ℕ → Row → List ℕ
 rest_text alone most row =

@@ -63,6 +63,13 @@ fn takes_together(grain: Grain, strategy: Strategy) -> bool
     }
 }
 
+/// A child of a supervisor, and how many processes stand below it.
+#[derive(Clone, Copy, Debug, PartialEq, Eq)]
+pub struct Weighed {
+    pub spec: ChildSpec,
+    pub below: u64,
+}
+
 /// Whether two children of a supervisor are the same one.
 fn is_same(one: &ChildSpec, other: &ChildSpec) -> bool
     ensures { result ≡ on name_bytes bytes_eq one.now.id other.now.id }
@@ -70,15 +77,15 @@ fn is_same(one: &ChildSpec, other: &ChildSpec) -> bool
     one.id == other.id
 }
 
-/// Whether the second child of a supervisor of this strategy is taken together with the first.
+/// Whether the second child of a supervisor of this strategy is taken together with the first: as many processes stand below it.
 #[tactic(auto, unfolding(crate::specs::Alike::is_alike))]
-pub fn is_alike(grain: Grain, strategy: Strategy, one: &ChildSpec, other: &ChildSpec) -> bool
+pub fn is_alike(grain: Grain, strategy: Strategy, one: &Weighed, other: &Weighed) -> bool
     ensures { result ≡ is_alike grain strategy one.now other.now }
 {
     if takes_together(grain, strategy) {
-        is_same_kind(one, other)
+        is_same_kind(&one.spec, &other.spec) && one.below == other.below
     } else {
-        is_same(one, other)
+        is_same(&one.spec, &other.spec)
     }
 }
 
@@ -86,12 +93,12 @@ pub fn is_alike(grain: Grain, strategy: Strategy, one: &ChildSpec, other: &Child
 pub(crate) fn is_like_one(
     grain: Grain,
     strategy: Strategy,
-    spec: &ChildSpec,
-    heads: &[ChildSpec],
+    child: &Weighed,
+    heads: &[Weighed],
 ) -> bool
-    ensures { result ≡ list_any (is_alike grain strategy spec.now) heads.now }
+    ensures { result ≡ list_any (is_alike grain strategy child.now) heads.now }
 {
     heads
         .iter()
-        .any(|head| is_alike(grain, strategy, spec, head))
+        .any(|head| is_alike(grain, strategy, child, head))
 }

@@ -1,11 +1,12 @@
 //! What does each child's failure cost, in a whole tree? Children of a supervisor that are alike are taken together: the first
 //! of them is played (otp_limits), and a row stands for them all. The rows are told as a table, the worst first.
 //!
-//! Alike are children with the same restart type and type, both significant or both not, unless their supervisor is of
-//! rest_for_one. That the others of a row fare as the first isn't proved; [`Grain::Each`] plays each.
+//! Alike are children with the same restart type and type, both significant or both not, and as many processes below, unless their
+//! supervisor is of rest_for_one. That the others of a row fare as the first isn't proved; [`Grain::Each`] plays each.
 #![tactic(auto)]
 
 mod alike;
+mod below;
 mod group;
 mod pick;
 mod progress;
@@ -15,7 +16,7 @@ mod table;
 mod told;
 mod words;
 
-pub use alike::{Grain, is_alike};
+pub use alike::{Grain, Weighed, is_alike};
 pub use group::{Group, find_groups};
 pub use pick::Pick;
 pub use progress::{Progress, Unseen};

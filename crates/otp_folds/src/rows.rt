@@ -5,6 +5,7 @@ ghost use Rattle.otp_folds.specs.Groups.{is_wanted};
 ghost use Rattle.otp_folds.specs.Rows.{AreRows, HasRow, HaveRows, IsRow, PutsRanked, groups_in};
 
 use crate::alike::Grain;
+use crate::below::{count_processes, weigh_all};
 use crate::group::{Group, find_groups};
 use crate::pick::Pick;
 use crate::progress::{Progress, Unseen, see};
@@ -24,6 +25,10 @@ pub struct Row {
     pub names: Listed<Name>,
     /// What it costs their own supervisor.
     pub own: Cost,
+    /// How many processes one crash stops, with those below the children that it stops.
+    pub stopped: u64,
+    /// How many it starts again, with those below the children that it starts.
+    pub started: u64,
     /// How the root fares where the child crashes again and again, with no time between.
     pub root: Fate,
     /// The supervisors that have given up then, those below before those above them.
@@ -49,24 +54,30 @@ fn put_names(names: &[Name], copy: &mut Listed<Name>) -> Result<(), AllocError>
     Ok(())
 }
 
-/// The row of a group of the supervisor at this place.
+/// The row of a group of the supervisor at this place among all. The word is a place for a text.
 fn find_row(
     alloc: Global,
     tree: &TreeSpec,
+    seats: &[Seat],
     place: usize,
     seat: &Seat,
     group: &Group,
+    word: &mut Vec<u8>,
 ) -> Result<Row, Halt>
-    ensures { IfOk result (λ row. IsRow tree.now place seat.now group.now row) }
+    ensures { IfOk result (λ row. IsRow tree.now seats.now place seat.now group.now row) }
 {
     let path = Path::copy_of(alloc, seat.path())?;
     let names = copy_names(alloc, group.names.as_slice())?;
     let own = find_cost(alloc, seat.supervisor(), &group.first)?;
+    let stopped = count_processes(seat.path(), seats, own.stops.as_slice(), word)?;
+    let started = count_processes(seat.path(), seats, own.starts.as_slice(), word)?;
     let fall = find_fall(alloc, tree, place, &group.first)?;
     Ok(Row {
         path,
         names,
         own,
+        stopped,
+        started,
         root: fall.root,
         ends: fall.ends,
     })
@@ -89,16 +100,18 @@ fn is_asked_for(
 fn put_row_if(
     alloc: Global,
     tree: &TreeSpec,
+    seats: &[Seat],
     place: usize,
     seat: &Seat,
     group: &Group,
     is_wanted: bool,
+    word: &mut Vec<u8>,
     rows: &mut Vec<Row>,
 ) -> Result<(), Halt>
-    ensures { OnOk result (PutsRanked (HasRow is_wanted tree.now place seat.now group.now) rows.old.items rows.new.items) }
+    ensures { OnOk result (PutsRanked (HasRow is_wanted tree.now seats.now place seat.now group.now) rows.old.items rows.new.items) }
 {
     if is_wanted {
-        let row = find_row(alloc, tree, place, seat, group)?;
+        let row = find_row(alloc, tree, seats, place, seat, group, word)?;
         put_in(row, rows)?;
     }
     Ok(())
@@ -109,17 +122,20 @@ fn put_row(
     alloc: Global,
     pick: &Pick<'_>,
     tree: &TreeSpec,
+    seats: &[Seat],
     place: usize,
     seat: &Seat,
     group: &Group,
     word: &mut Vec<u8>,
     rows: &mut Vec<Row>,
 ) -> Result<(), Halt>
-    ensures { OnOk result (PutsRanked (HasRow (is_wanted pick.now seat.now.path group.now.names) tree.now place seat.now group.now)
+    ensures { OnOk result (PutsRanked (HasRow (is_wanted pick.now seat.now.path group.now.names) tree.now seats.now place seat.now group.now)
         rows.old.items rows.new.items) }
 {
     let is_wanted = is_asked_for(pick, seat, group, word)?;
-    put_row_if(alloc, tree, place, seat, group, is_wanted, rows)
+    put_row_if(
+        alloc, tree, seats, place, seat, group, is_wanted, word, rows,
+    )
 }
 
 /// Puts the rows of those of these groups that are asked for in their places among others.
@@ -127,34 +143,74 @@ fn put_rows(
     alloc: Global,
     pick: &Pick<'_>,
     tree: &TreeSpec,
+    seats: &[Seat],
     place: usize,
     seat: &Seat,
     groups: &[Group],
     rows: &mut Vec<Row>,
 ) -> Result<(), Halt>
-    ensures { OnOk result (PutsRanked (HaveRows pick.now tree.now place seat.now groups.now) rows.old.items rows.new.items) }
+    ensures { OnOk result (PutsRanked (HaveRows pick.now tree.now seats.now place seat.now groups.now) rows.old.items rows.new.items) }
 {
     let mut word = Vec::new(alloc);
     for at in 0..groups.len() {
-        put_row(alloc, pick, tree, place, seat, &groups[at], &mut word, rows)?;
+        put_row(
+            alloc,
+            pick,
+            tree,
+            seats,
+            place,
+            seat,
+            &groups[at],
+            &mut word,
+            rows,
+        )?;
     }
     Ok(())
 }
 
-/// Puts the rows of those children of the supervisor at this place that are asked for in their places among others.
+/// The groups of a supervisor among all.
+fn groups_in(
+    alloc: Global,
+    grain: Grain,
+    seats: &[Seat],
+    seat: &Seat,
+) -> Result<Vec<Group>, AllocError>
+    ensures { IfOk result (λ found. found.items ≡ groups_in grain seats.now seat.now) }
+{
+    let supervisor = seat.supervisor();
+    let children = weigh_all(alloc, seat.path(), seats, supervisor.specs())?;
+    find_groups(
+        alloc,
+        grain,
+        supervisor.flags().strategy,
+        children.as_slice(),
+    )
+}
+
+/// Puts the rows of those children of the supervisor at this place among all that are asked for in their places among others.
 fn put_seat(
     alloc: Global,
     grain: Grain,
     pick: &Pick<'_>,
     tree: &TreeSpec,
+    seats: &[Seat],
     place: usize,
     seat: &Seat,
     rows: &mut Vec<Row>,
 ) -> Result<(), Halt>
-    ensures { OnOk result (PutsRanked (HaveRows pick.now tree.now place seat.now (groups_in grain seat.now)) rows.old.items rows.new.items) }
+    ensures { OnOk result (PutsRanked (HaveRows pick.now tree.now seats.now place seat.now (groups_in grain seats.now seat.now)) rows.old.items rows.new.items) }
 {
-    let groups = find_groups(alloc, grain, seat.supervisor())?;
-    let put = put_rows(alloc, pick, tree, place, seat, groups.as_slice(), rows);
+    let groups = groups_in(alloc, grain, seats, seat)?;
+    let put = put_rows(
+        alloc,
+        pick,
+        tree,
+        seats,
+        place,
+        seat,
+        groups.as_slice(),
+        rows,
+    );
     drop(groups);
     put
 }
@@ -175,7 +231,7 @@ pub fn find_rows(
     find_rows_seen(alloc, grain, pick, tree, &Unseen)
 }
 
-/// The same, where somebody sees how far it is.
+/// What [`find_rows`] finds, where somebody sees how far it is.
 ///
 /// # Errors
 ///
@@ -193,7 +249,16 @@ pub fn find_rows_seen<P: Progress>(
     let mut rows = Vec::new(alloc);
     for place in 0..seats.len() {
         see(progress, place, seats.as_slice());
-        put_seat(alloc, grain, pick, tree, place, &seats[place], &mut rows)?;
+        put_seat(
+            alloc,
+            grain,
+            pick,
+            tree,
+            seats.as_slice(),
+            place,
+            &seats[place],
+            &mut rows,
+        )?;
     }
     Ok(rows)
 }

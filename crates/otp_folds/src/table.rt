@@ -2,7 +2,7 @@
 
 ghost use Rattle.std.specs.Prelude.{◌≡◌, ◌≤◌, ◌++◌, IfOk, OnOk, length};
 ghost use Rattle.std.specs.List.{flat_map};
-ghost use Rattle.otp_folds.specs.Table.{affected_text, alike_text, children_end, children_text, clip, crash_text, damage_text, ends_text, entry_end, entry_text, first_text, giver_text, list_text, names_text, names_width, rest_text, root_column, root_text, row_text, some_text, supervisors_text, table_text, title_of, title_text, titles, word_of};
+ghost use Rattle.otp_folds.specs.Table.{affected_text, alike_text, below_text, children_end, children_text, clip, crash_text, damage_text, ends_text, entry_end, entry_text, first_text, giver_text, list_text, named_text, names_text, names_width, rest_text, root_column, root_text, row_text, some_text, supervisors_text, table_text, title_of, title_text, titles, word_of};
 ghost use Rattle.otp_folds.specs.declared.table.TheConstants.{SHOWN, WIDTH};
 
 use crate::pick::put_name;
@@ -163,10 +163,10 @@ fn write_row(
     write_interval(row.own.burst, row.own.steady, word)?;
     write_right(14, word.as_slice(), out)?;
     word.clear();
-    write_number(row.own.stops.as_slice().len() as u64, word)?;
+    write_number(row.stopped, word)?;
     write_right(7, word.as_slice(), out)?;
     word.clear();
-    write_number(row.own.starts.as_slice().len() as u64, word)?;
+    write_number(row.started, word)?;
     write_right(8, word.as_slice(), out)?;
     write_root_column(is_alone, row.root, word, out)?;
     out.extend_from_slice(b"  ")?;
@@ -336,7 +336,7 @@ fn write_crash(row: &Row, word: &mut Vec<u8>, out: &mut Vec<u8>) -> Result<(), A
     out.extend_from_slice(b"\n")
 }
 
-/// Appends what a crash of a child stops and starts again.
+/// Appends what a crash of a child stops and starts again, and how many processes below these children.
 #[tactic(auto, unfolding(crate::specs::Table::affected_text))]
 fn write_affected(
     most: usize,
@@ -346,6 +346,42 @@ fn write_affected(
 ) -> Result<(), AllocError>
     requires { SHOWN ≤ most }
     ensures { OnOk result (out.new.items ≡ out.old.items ++ affected_text most row.now) }
+{
+    write_named(most, row, word, out)?;
+    write_below(
+        row.stopped
+            .saturating_sub(row.own.stops.as_slice().len() as u64),
+        row.started
+            .saturating_sub(row.own.starts.as_slice().len() as u64),
+        out,
+    )
+}
+
+/// Appends how many processes below some children stop, and how many start, if there are some.
+#[tactic(auto, unfolding(crate::specs::Table::below_text))]
+fn write_below(stops: u64, starts: u64, out: &mut Vec<u8>) -> Result<(), AllocError>
+    ensures { OnOk result (out.new.items ≡ out.old.items ++ below_text stops starts) }
+{
+    if stops == 0 && starts == 0 {
+        return Ok(());
+    }
+    out.extend_from_slice(b"  below  ")?;
+    write_number(stops, out)?;
+    out.extend_from_slice(b" stop, ")?;
+    write_number(starts, out)?;
+    out.extend_from_slice(b" start\n")
+}
+
+/// Appends the children that a crash of a child stops and starts again.
+#[tactic(auto, unfolding(crate::specs::Table::named_text))]
+fn write_named(
+    most: usize,
+    row: &Row,
+    word: &mut Vec<u8>,
+    out: &mut Vec<u8>,
+) -> Result<(), AllocError>
+    requires { SHOWN ≤ most }
+    ensures { OnOk result (out.new.items ≡ out.old.items ++ named_text most row.now) }
 {
     let path = row.path.as_bytes();
     write_list(most, b"  stops ", path, row.own.stops.as_slice(), word, out)?;

@@ -52,7 +52,7 @@ fn tell_rows(
 }
 
 /// Appends what the failure of those children of a tree costs that are asked for, the worst first, and says whether there are
-/// any: `false` where a child or a supervisor of a name is asked for and there is none, and then nothing is appended. Somebody may
+/// any. Where a child or a supervisor of a name is asked for and there is none, it says `false` and appends nothing. Somebody may
 /// see how far it is.
 ///
 /// # Errors

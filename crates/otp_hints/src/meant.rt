@@ -155,7 +155,7 @@ fn what_truth(key: Key, is_true: bool) -> &'static str {
     }
 }
 
-/// The same of a number with a fraction.
+/// What to do about a number with a fraction.
 fn what_float(key: Key, number: f64) -> &'static str {
     match key {
         Key::Child(ChildKey::Shutdown) if number.is_infinite() => "; write \"infinity\"",
@@ -167,7 +167,7 @@ fn what_float(key: Key, number: f64) -> &'static str {
     }
 }
 
-/// The same of a date, or a time of day.
+/// What to do about a date, or a time of day.
 fn what_date(key: Key) -> &'static str {
     match key {
         Key::Flag(FlagKey::Period) => "; write the number of seconds",
@@ -176,7 +176,7 @@ fn what_date(key: Key) -> &'static str {
     }
 }
 
-/// The same of a text.
+/// What to do about a text.
 fn what_text(key: Key, text: &str) -> &'static str {
     match key {
         Key::Flag(FlagKey::Intensity) if is_count(text) => "; a number stands without quotes",

@@ -41,7 +41,7 @@ pub fn small_letters(alloc: Global, word: &str) -> Result<String, AllocError> {
     Ok(small)
 }
 
-/// The same of a letter.
+/// A letter as a small one, with `_` for `-` and for a space.
 fn small_letter(letter: char) -> char {
     match letter {
         '-' | ' ' => '_',

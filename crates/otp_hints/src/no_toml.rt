@@ -58,7 +58,7 @@ fn what_else(message: &str, file: &[u8], rest: &[u8]) -> &'static str {
     }
 }
 
-/// The same, where the message goes on.
+/// What to do, by how the message begins that says why the text is no document.
 fn what_syntax(message: &str, file: &[u8], rest: &[u8]) -> &'static str {
     if message.starts_with("invalid value") || message.starts_with("`_` may only") {
         what_value(rest)

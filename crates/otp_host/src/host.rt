@@ -1,11 +1,12 @@
 //! The system that the program is run on.
 
-use otp_ending::{LARGEST_TREE, TreeFiles, Unwritten};
+use otp_ending::{LARGEST_FILE, LARGEST_TREE, TreeFiles, Unwritten};
 use otp_sim::Counted;
 use std::alloc::Global;
 use std::env::VarError;
-use std::fs::File;
+use std::fs::{File, Metadata};
 use std::io::{ErrorKind, IsTerminal, Read, Stdout, Write};
+use std::os::unix::fs::MetadataExt;
 use std::sync::atomic::{AtomicU64, Ordering};
 use std::{env, fs, io};
 
@@ -26,14 +27,17 @@ fn is_dumb(variable: Result<String, VarError>) -> bool {
     }
 }
 
-/// Reads as many bytes as a tree file may have, and one.
-fn read_most<R: Read + Drop>(alloc: Global, from: R) -> io::Result<Vec<u8>> {
-    let most = LARGEST_TREE as u64;
+/// Reads so many bytes at the most, and one.
+fn read_most<R: Read + Drop>(alloc: Global, from: R, most: usize) -> io::Result<Vec<u8>> {
+    let most = most as u64;
     let mut bytes = Vec::new(alloc);
     let mut input = from.take(most.saturating_add(1));
     input.read_to_end(&mut bytes)?;
     Ok(bytes)
 }
+
+/// What a page begins with, in small letters or capitals.
+const PAGE: &[u8; 14] = b"<!doctype html";
 
 /// No write has failed.
 const WRITTEN: u64 = 0;
@@ -63,6 +67,7 @@ impl<W> Noting<'_, W> {
             ErrorKind::StorageFull | ErrorKind::QuotaExceeded | ErrorKind::FileTooLarge => NO_ROOM,
             _ => OTHER,
         };
+        // One thread writes and reads it, so no order is wanted.
         self.why.store(why, Ordering::Relaxed);
     }
 }
@@ -97,6 +102,26 @@ impl<'a> System<'a> {
         }
     }
 
+    /// What stands under this name, at the end of all links.
+    fn look(&self, name: &str) -> io::Result<Metadata> {
+        if name == "-" {
+            fs::metadata(self.rt, "/dev/stdin")
+        } else {
+            fs::metadata(self.rt, name)
+        }
+    }
+
+    /// Whether the file of this name begins as a page does. One that can't be read doesn't.
+    fn has_page(&self, name: &str) -> bool {
+        let mut front = [0; PAGE.len()];
+        match File::open(self.rt, name) {
+            Ok(mut file) => {
+                file.read_exact(&mut front).is_ok() && front.eq_ignore_ascii_case(PAGE)
+            }
+            Err(_) => false,
+        }
+    }
+
     /// Standard output, of which it is noted why a write last failed.
     pub fn output(&self) -> Counted<Noting<'_, Stdout>> {
         Counted::new(Noting {
@@ -108,18 +133,40 @@ impl<'a> System<'a> {
 
 /// The files of the system, of which nothing is known beforehand.
 impl TreeFiles for System<'_> {
-    ghost known = { λ _. record { holds = λ _ _. Unit {0}; keeps = λ _ _. Unit {0} } };
+    ghost known = { λ _. record {
+      holds = λ _ _. Unit {0};
+      keeps = λ _ _. Unit {0};
+      are_apart = λ _ _. Unit {0};
+      is_free = λ _. Unit {0};
+    } };
 
     fn read(&self, name: &str) -> io::Result<Vec<u8>> {
-        fs::read(self.rt, name)
+        read_most(self.rt.alloc(), File::open(self.rt, name)?, LARGEST_FILE)
     }
 
     fn read_tree(&self, name: &str) -> io::Result<Vec<u8>> {
-        read_most(self.rt.alloc(), File::open(self.rt, name)?)
+        read_most(self.rt.alloc(), File::open(self.rt, name)?, LARGEST_TREE)
     }
 
     fn read_input(&self) -> io::Result<Vec<u8>> {
-        read_most(self.rt.alloc(), self.rt.stdin())
+        read_most(self.rt.alloc(), self.rt.stdin(), LARGEST_TREE)
+    }
+
+    /// Two names are of one file where it is the same one of the same device. A file that isn't there is no other one.
+    fn are_one(&self, name: &str, other: &str) -> bool {
+        match (self.look(name), self.look(other)) {
+            (Ok(one), Ok(other)) => one.dev() == other.dev() && one.ino() == other.ino(),
+            _ => false,
+        }
+    }
+
+    /// Nothing is lost where there is no file, one that is empty, a page, or no file that keeps what is written, as a device.
+    fn is_free(&self, name: &str) -> bool {
+        match self.look(name) {
+            Ok(found) if found.is_file() && found.len() > 0 => self.has_page(name),
+            // What else is wrong with it the write tells.
+            _ => true,
+        }
     }
 
     fn write(&self, name: &str, bytes: &[u8]) -> io::Result<()> {

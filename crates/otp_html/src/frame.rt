@@ -33,7 +33,7 @@ fn put_title(what: &[u8], name: &[u8], out: &mut Vec<u8>) -> Result<(), AllocErr
     put_element(b" ", name, b"</title>\n<style>\n", out)
 }
 
-/// Appends the heading, which says the same.
+/// Appends the heading, which says as the title what the page is and of which file.
 #[tactic(auto, unfolding(crate::specs::Frame::heading_text))]
 fn put_heading(what: &[u8], name: &[u8], out: &mut Vec<u8>) -> Result<(), AllocError>
     ensures { OnOk result (out.new.items ≡ out.old.items ++ heading_text what.now name.now) }

@@ -9,7 +9,7 @@ use std::alloc::AllocError;
 const LIGHT: &[u8] = b"\
 :root{color-scheme:light dark;--ink:#1c2330;--dim:#566070;--paper:#ffffff;--card:#f3f5f8;--line:#c9d1dc;--up:#1b6e37;--way:#7a5200;--down:#a8231b;--key:#1d4f9e}\n";
 
-/// Those of a dark one.
+/// The colours of a dark page.
 const DARK: &[u8] = b"\
 @media (prefers-color-scheme:dark){:root{--ink:#e6e9ef;--dim:#a3adba;--paper:#14181f;--card:#1e2530;--line:#414c5b;--up:#77d494;--way:#e6ba62;--down:#ff938a;--key:#93baf9}}\n";
 

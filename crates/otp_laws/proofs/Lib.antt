@@ -27,3 +27,4 @@ mod Dynamic
 mod Simple
 mod Ticks
 mod Stays
+mod Owed

@@ -28,7 +28,7 @@ use Rattle.otp_rules.specs.declared.work.Phase.TheVariants.{Ended}
 use Rattle.otp_rules.specs.declared.work.Sequel.{Sequel}
 use Rattle.otp_rules.specs.declared.work.Sequel.TheVariants as sequel
 use Rattle.otp_rules.specs.State.{Outcome, State, answer, is_busy, is_over, own_number, put_last, with_rows, with_waiting, with_work}
-use Rattle.otp_rules.specs.Places.{at_number, end_row, is_removed, set_row}
+use Rattle.otp_rules.specs.Places.{at_number, at_row, end_row, is_removed, set_row}
 use Rattle.otp_rules.specs.Restarts.{ends_by_significance, is_restarted}
 use Rattle.otp_rules.specs.Stops.{is_exit, terminate}
 use Rattle.otp_rules.specs.Starts.{is_due, start, start_row}
@@ -40,14 +40,14 @@ use Rattle.otp_rules.specs.Taken.{EndsBySignificance}
 use Rattle.otp_rules.proofs.GoesOn.{GoesOn, advance-on}
 use Rattle.otp_rules.proofs.Walks.{with_stops}
 use Rattle.otp_rules.proofs.Decisions.{StandsAt, at_row-survives, by_test, end_row-same, first_passes}
-use Rattle.otp_rules.proofs.Counting.{at_row-first, remove_count, rows_in-at, set_count, tell-alike, use_exit-alike}
+use Rattle.otp_rules.proofs.Counting.{at_row-first, remove_count, set_count, tell-alike, use_exit-alike}
 use Rattle.otp_rules.proofs.WhileOpen.{terminate-follows}
 use Rattle.otp_laws.proofs.Heeded.{brings-idle, none_some, same_some}
 use Rattle.otp_laws.specs.Musts.{IsEnding, IsSignificantEnd, SignificantEndsEnd}
 
 -- an end that is open goes on to the end of the supervisor
 
-abbrev Ends : Ending → Outcome → Type 0
+abbrev pub Ends : Ending → Outcome → Type 0
 Ends x o = o.state.follows ≡ Some (sequel.End x)
 
 same_end : (x y : Ending) → ◌≡◌ {A = Option Sequel} (Some (sequel.End x)) (Some (sequel.End y)) → x ≡ y
@@ -68,7 +68,7 @@ going-ends x n =
       ends = λ e o last h. inr (own_number o.state.phase, ap (λ (y : Ending). Ended (own_number o.state.phase) y) (same_end e x (sym last.0 ∙ h)));
     }
 
-step-ends : (s : State) (e : Event) (x : Ending) → Ends x (decide e.kind (record { state = stamped e.reading s; orders = [] })) → IsEnding (step s e).state x
+pub step-ends : (s : State) (e : Event) (x : Ending) → Ends x (decide e.kind (record { state = stamped e.reading s; orders = [] })) → IsEnding (step s e).state x
 unfolding step step_on
 step-ends s e x h =
     advance-on (unwrap_or e.number 0) (λ _. Ends x) (λ o. IsEnding o.state x) (going-ends x (unwrap_or e.number 0)) (decide e.kind (record { state = stamped e.reading s; orders = [] })) (λ _. inl h) (λ _ _. h)
@@ -91,19 +91,18 @@ passes p (Asked q _) h = eq-eqb q p (same_some q p h)
 passes p (Killed q) h = eq-eqb q p (same_some q p h)
 passes p (Restarting _) h = absurd (none_some p h)
 
--- what is done at the row of a process is done at the first that has it
-at_first : (P : Outcome → Type 0) (p : ℕ) (f : ℕ → Row → Outcome → Outcome) (place : ℕ) (row : Row) (o : Outcome) → IsFirstRow (HasProcess p) o.state.rows place row → P (f place row o) → P (at_number p f o)
-unfolding at_number
-at_first P p f place row o first h =
+-- what is done at a row that passes a test is done at the first for which this holds
+pub at_first_row : (P : Outcome → Type 0) (Holds : Row → Type 0) (test : Row → Bool) (missing : Outcome) (f : ℕ → Row → Outcome → Outcome) (place : ℕ) (row : Row) (o : Outcome)
+    → ((r : Row) → Holds r → test r ≡ true) → ((r : Row) → test r ≡ true → Holds r) → IsFirstRow Holds o.state.rows place row → P (f place row o) → P (at_row test missing f o)
+at_first_row P Holds test missing f place row o passes_it holds_it first h =
     let rows : List Row = o.state.rows in
-    let test : Row → Bool = row_has (has_process p) in
-    let has : has_process p row.state ≡ true = passes p row.state first.holds in
-    let one : ◌≡◌ {A = ℕ} (cond (has_process p row.state) 1 0) 1 = ap (λ (b : Bool). cond b 1 0) has in
-    let some : 0 < count_by test rows = omega (arith, one, rows_in-at (has_process p) place row rows first.at) in
-    at_row-first P test o f o some
+    let has : test row ≡ true = passes_it row first.holds in
+    let one : ◌≡◌ {A = ℕ} (cond (test row) 1 0) 1 = ap (λ (b : Bool). cond b 1 0) has in
+    let some : 0 < count_by test rows = (let e : count_by test (remove rows place) + cond (test row) 1 0 ≡ count_by test rows = remove_count test rows place row first.at in omega (arith, one, e)) in
+    at_row-first P test missing f o some
     (λ i other found at.
-    let before : (i < place → ⊥) = λ less. first.first i other less at (has_of p other.state (first_passes test i other o found at)) in
-    let after : (place < i → ⊥) = λ less. false≢true (sym ((position-Some test rows i row found).2 place less) ∙ ap (λ (r : Row). has_process p r.state) (get_or_from_slice_get rows place row row first.at) ∙ has) in
+    let before : (i < place → ⊥) = λ less. first.first i other less at (holds_it other (first_passes test i other o found at)) in
+    let after : (place < i → ⊥) = λ less. false≢true (sym ((position-Some test rows i row found).2 place less) ∙ ap (λ (r : Row). test r) (get_or_from_slice_get rows place row row first.at) ∙ has) in
     let same : i ≡ place = equal i place before after in
     let here : ◌≡◌ {A = Option Row} (Some other) (Some row) = sym at ∙ ap (λ (n : ℕ). slice_get rows n) same ∙ first.at in
     let it : other ≡ row = cc in
@@ -114,9 +113,14 @@ at_first P p f place row o first h =
         ⊎_elim (λ (less : nat_lt x y ≡ true). absurd (h (ltb-true x y less)))
         (λ (isnt : nat_lt x y ≡ false). ⊎_elim (λ (more : nat_lt y x ≡ true). absurd (k (ltb-true y x more))) (λ (none : nat_lt y x ≡ false). omega (arith, ltb-false x y isnt, ltb-false y x none)) (cases_Bool (nat_lt y x))) (cases_Bool (nat_lt x y))
 
+-- what is done at the row of a process is done at the first that has it
+pub at_first : (P : Outcome → Type 0) (p : ℕ) (f : ℕ → Row → Outcome → Outcome) (place : ℕ) (row : Row) (o : Outcome) → IsFirstRow (HasProcess p) o.state.rows place row → P (f place row o) → P (at_number p f o)
+unfolding at_number
+at_first P p f place row o first h = at_first_row P (HasProcess p) (row_has (has_process p)) o f place row o (λ r has. passes p r.state has) (λ r has. has_of p r.state has) first h
+
 -- what the rules ask
 
-not_back : (restart : Restart) (r : Reason) → (ComesBackAfter r restart → ⊥) → is_restarted restart r ≡ false
+pub not_back : (restart : Restart) (r : Reason) → (ComesBackAfter r restart → ⊥) → is_restarted restart r ≡ false
 not_back Permanent r h = absurd (h tt)
 not_back Transient r h = ⊎_elim (λ (quiet : is_quiet r ≡ true). ap not quiet) (λ (loud : is_quiet r ≡ false). absurd (h loud)) (cases_Bool (is_quiet r))
 not_back Temporary r h = refl

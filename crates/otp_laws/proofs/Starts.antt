@@ -43,7 +43,7 @@ use Rattle.otp_laws.proofs.Oks.{set-among}
 use Rattle.otp_laws.proofs.Ordered.{one_id}
 
 -- the order starts nobody
-abbrev NotStart : Effect → Type 0
+abbrev pub NotStart : Effect → Type 0
 NotStart (effect.Start _ _) = ⊥
 NotStart _ = Unit {0}
 
@@ -92,11 +92,11 @@ stop-silent id p BrutalKill = tt
 stop-silent id p (Milliseconds _) = tt
 stop-silent id p Infinity = tt
 
-tell-silent : (p : ℕ) (o : Outcome) → Silent o → Silent (tell p o)
+pub tell-silent : (p : ℕ) (o : Outcome) → Silent o → Silent (tell p o)
 unfolding tell tell_row
 tell-silent p o h = at_number-survives Silent p (tell_row p) o h (λ i row at has. All-push NotStart o.orders (stop_order row.id p row.spec.shutdown) h (stop-silent row.id p row.spec.shutdown))
 
-replies : TakesReplies NotStart
+pub replies : TakesReplies NotStart
 replies = (λ c. tt, tt, λ x. tt)
 
 -- the child that is started

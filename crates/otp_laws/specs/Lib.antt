@@ -11,3 +11,4 @@ pub mod Simple
 pub mod Starts
 pub mod Ticks
 pub mod Stays
+pub mod Owed

@@ -6,6 +6,7 @@ ghost use Rattle.otp_laws.specs.Musts.{DeletesUndefined, DeletesUndefinedFrom, S
 ghost use Rattle.otp_laws.specs.Notes.{NotesCountOnce, NotesCountOnceFrom, UnawaitedChangesNone, UnawaitedChangesNoneFrom};
 ghost use Rattle.otp_laws.specs.Oks.{AnswersTrue, AnswersTrueFrom};
 ghost use Rattle.otp_laws.specs.Once.{CallsAnsweredOnce, CallsAnsweredOnceFrom};
+ghost use Rattle.otp_laws.specs.Owed.{CallsStart, EndsRestart, EndsStay, OwedStays, OwedUntilStarted, TriesRestart};
 ghost use Rattle.otp_laws.specs.Refusals.{RefusalsChangeNone};
 ghost use Rattle.otp_laws.specs.Simple.{SimpleHasNoneUndefined};
 ghost use Rattle.otp_laws.specs.Starts.{EndOrdersEnd, StartsOfChildren, StartsOfChildrenFrom};
@@ -134,4 +135,24 @@ pub fn up_keeps_children()
 /// dynamic, and nothing waits, and where the supervisor isn't over then: the rows have the same slots, in the same order.
 pub fn stop_keeps_children()
     ensures { StopKeepsChildren }
+{}
+
+/// A child that ends is started again: a permanent one always, a transient one after an end that isn't quiet. The event that takes
+/// the note of its end, where no work is open, orders its start under the event's number, or opens work that still has to; or the
+/// restart was one too many within the period, and the supervisor ends. After any other end the event starts nobody, and counts no
+/// restart. The next try of a restart that failed does as the first one. Who is owed a start has it ordered by a later event, or is owed it still, whatever happens; but where another start of the same work
+/// fails, the work closes, and the next try waits. So it is in every state (Supervisor Behaviour, Child Specification, restart,
+/// Restart Strategy and Maximum Restart Intensity).
+pub fn ends_restart()
+    ensures exit { EndsRestart }
+    ensures other_exit { EndsStay }
+    ensures next_try { TriesRestart }
+    ensures owed { OwedStays }
+    ensures until_started { OwedUntilStarted }
+{}
+
+/// A call that asks for a start has it ordered by the event that takes it where no work is open, under the event's number, or is
+/// refused (supervisor, start_child/2 and restart_child/2).
+pub fn calls_start()
+    ensures { CallsStart }
 {}

@@ -1,16 +1,23 @@
-//! A supervisor that is played in a world where all goes well, but for one child that crashes.
+//! A supervisor that is played in a world where all goes well, but for one child that crashes. It is one that a driver drives
+//! ([`Supervisor`]), so what is counted of it is what it does for who embeds it.
 
-ghost use Rattle.std.specs.Prelude.{[], ◌≡◌, ◌+◌, ◌≤◌, ◌<◌, ◌++◌, None, OnOk, IfErr, IfOk, IfSome, length, not, position, vec_capacity, vec_len};
+ghost use Rattle.std.specs.Prelude.{IsTrue, [], ◌≡◌, ◌∷◌, ◌+◌, ◌≤◌, ◌<◌, ◌++◌, None, OnErr, OnOk, IfErr, IfOk, IfSome, length, not, position};
 ghost use Rattle.std.specs.List.{filter, filter_map};
+ghost use Rattle.otp_core.specs.declared.cut.TheConstants.{MAX_EVENTS_IN_ALL};
+ghost use Rattle.otp_driven.specs.Members.{Happens};
+ghost use Rattle.otp_driven.specs.declared.fault.DriveFault.TheVariants.{Spent};
 ghost use Rattle.otp_limits.specs.Fates.{HasNoRoom, crashed, is_of, process_of, running_at};
 ghost use Rattle.otp_limits.specs.Scene.{BeginFills, Begins, FillsUp, IsFull, OpeningFills, Opens, Settles, happened, heard, joined, next_in, note_of};
+ghost use Rattle.otp_limits.specs.Taking.{Stays, asked, pending};
 ghost use Rattle.otp_rules.specs.Effects.{is_reply};
+ghost use Rattle.otp_rules.specs.Needs.{last_number};
 ghost use Rattle.otp_rules.specs.State.{is_over};
 ghost use Rattle.otp_trial.specs.declared.trial.Halt.TheVariants.{HistoryFull};
 ghost use Rattle.otp_spec.specs.Flags.{is_simple};
 ghost use Rattle.otp_spec.specs.declared.limits.TheConstants.{MAX_READING};
 
-use otp_core::{Core, MAX_EVENTS, MAX_EVENTS_IN_ALL};
+use otp_core::MAX_EVENTS_IN_ALL;
+use otp_driven::{DriveFault, Supervisor};
 use otp_reason::{Name, Note, Reason};
 use otp_rules::{Call, Effect, Item, Kind};
 use otp_spec::{Strategy, SupSpec};
@@ -33,52 +40,116 @@ fn note_of(order: &Effect) -> Option<Note>
     }
 }
 
-/// Processes do what these orders ask, in order.
-fn obey(orders: &[Effect], notes: &mut VecDeque<Note>) -> Result<(), AllocError>
-    ensures { OnOk result (notes.new.items ≡ notes.old.items ++ filter_map note_of orders.now) }
+/// The process that an order names does it, and tells so behind what others tell.
+fn put_note(order: &Effect, notes: &mut VecDeque<Note>) -> Result<(), AllocError>
+    ensures { OnOk result (notes.new.items ≡ notes.old.items ++ filter_map note_of (order.now ∷ [])) }
 {
-    for order in orders {
-        if let Some(note) = note_of(order) {
-            notes.push_back(note).map_err(|_| AllocError)?;
-        }
+    match note_of(order) {
+        None => Ok(()),
+        Some(note) => notes.push_back(note).map_err(|_| AllocError),
     }
-    Ok(())
 }
 
-/// Processes do what the orders of a core ask, and there is room for those that are no answers.
-fn obey_all(
-    core: &Core,
+/// A copy of an order, unless it is an answer.
+fn copy_of(order: &Effect) -> Result<Option<Effect>, AllocError>
+    ensures { IfOk result (λ copy. copy ≡ asked order.now) }
+{
+    match order {
+        Effect::Start(id, number) => Ok(Some(Effect::Start(*id, *number))),
+        Effect::Ask(id, number) => Ok(Some(Effect::Ask(*id, *number))),
+        Effect::Kill(id, number) => Ok(Some(Effect::Kill(*id, *number))),
+        Effect::Reply(_) => Ok(None),
+        Effect::Ready => Ok(Some(Effect::Ready)),
+        Effect::End(end) => Ok(Some(Effect::End(end.try_clone()?))),
+    }
+}
+
+/// Puts an order behind others, unless it is an answer.
+fn put_order(order: &Effect, orders: &mut Vec<Effect>) -> Result<(), AllocError>
+    ensures { OnOk result (orders.new.items ≡ orders.old.items ++ filter (λ order. not (is_reply order)) (order.now ∷ [])) }
+{
+    match copy_of(order)? {
+        None => Ok(()),
+        Some(copy) => orders.push(copy).map_err(|_| AllocError),
+    }
+}
+
+/// The process that an order names does it; the order is put behind others, unless it is an answer.
+fn put(
+    order: &Effect,
     notes: &mut VecDeque<Note>,
     orders: &mut Vec<Effect>,
 ) -> Result<(), AllocError>
-    ensures notes { OnOk result (notes.new.items ≡ notes.old.items ++ filter_map note_of core.now.effects) }
-    ensures orders { orders.new.items ≡ orders.old.items }
-    ensures room { OnOk result (vec_len orders.new + length (filter (λ order. not (is_reply order)) core.now.effects) ≤ vec_capacity orders.new) }
+    ensures notes { OnOk result (notes.new.items ≡ notes.old.items ++ filter_map note_of (order.now ∷ [])) }
+    ensures orders { OnOk result (orders.new.items ≡ orders.old.items ++ filter (λ order. not (is_reply order)) (order.now ∷ [])) }
 {
-    obey(core.effects(), notes)?;
-    orders.reserve(core.count_orders())
+    put_note(order, notes)?;
+    put_order(order, orders)
 }
 
-/// Processes do what the orders of a core ask. Those that are no answers are put behind others, and the core has none any
-/// more.
+/// The same, unless memory was refused before. Whether it never was.
+fn put_if(
+    is_whole: bool,
+    order: &Effect,
+    notes: &mut VecDeque<Note>,
+    orders: &mut Vec<Effect>,
+) -> bool
+    ensures whole { IsTrue result → IsTrue is_whole }
+    ensures notes { IsTrue result → notes.new.items ≡ notes.old.items ++ filter_map note_of (order.now ∷ []) }
+    ensures orders { IsTrue result → orders.new.items ≡ orders.old.items ++ filter (λ order. not (is_reply order)) (order.now ∷ []) }
+{
+    if !is_whole {
+        return false;
+    }
+    match put(order, notes, orders) {
+        Ok(()) => true,
+        Err(_) => false,
+    }
+}
+
+/// Takes all orders of a supervisor one by one: their processes do them, and those that are no answers are put behind others.
+/// From where memory is refused on they are only taken.
 fn take_orders(
-    core: &mut Core,
+    supervisor: &mut Supervisor,
     notes: &mut VecDeque<Note>,
     orders: &mut Vec<Effect>,
 ) -> Result<(), AllocError>
-    ensures notes { OnOk result (notes.new.items ≡ notes.old.items ++ filter_map note_of core.old.effects) }
-    ensures orders { OnOk result (orders.new.items ≡ orders.old.items ++ filter (λ order. not (is_reply order)) core.old.effects) }
-    ensures core { core.new ≡ record core.old { effects = [] } }
+    requires { supervisor.old.taken ≤ length supervisor.old.effects }
+    ensures notes { OnOk result (notes.new.items ≡ notes.old.items ++ filter_map note_of (pending supervisor.old)) }
+    ensures orders { OnOk result (orders.new.items ≡ orders.old.items ++ filter (λ order. not (is_reply order)) (pending supervisor.old)) }
+    ensures stays { Stays supervisor.old supervisor.new }
+    ensures all { supervisor.new.taken ≡ length supervisor.new.effects }
 {
-    match obey_all(core, notes, orders) {
-        Ok(()) => {
-            core.move_orders(orders);
-            Ok(())
-        }
-        Err(error) => {
-            core.clear_effects();
-            Err(error)
-        }
+    let mut is_whole = true;
+    while let Some(order) = supervisor.order() {
+        is_whole = put_if(is_whole, order, notes, orders);
+        supervisor.pass();
+    }
+    if is_whole { Ok(()) } else { Err(AllocError) }
+}
+
+/// Why a supervisor takes no event, as it ends a trial. No order ever waits here.
+fn halt_of(fault: DriveFault) -> Halt
+    ensures { result ≡ HistoryFull → fault ≡ Spent }
+{
+    match fault {
+        DriveFault::Spent => Halt::HistoryFull,
+        _ => Halt::OutOfMemory,
+    }
+}
+
+/// Something happens to a supervisor. The answer is the last process number then.
+fn happen(supervisor: &mut Supervisor, time: u64, kind: &Kind, last: u64) -> Result<u64, Halt>
+    requires time { time ≤ MAX_READING }
+    requires last { last ≡ last_number supervisor.old.history }
+    requires numbers { last_number supervisor.old.history ≤ length supervisor.old.history }
+    ensures ok { IfOk result (λ after. Happens time last kind.now supervisor.old supervisor.new after) }
+    ensures err { OnErr result (supervisor.new ≡ supervisor.old) }
+    ensures full { IfErr result (λ halt. halt ≡ HistoryFull → MAX_EVENTS_IN_ALL ≤ length supervisor.old.history) }
+{
+    match supervisor.happen(time, kind, last) {
+        Ok(after) => Ok(after),
+        Err(fault) => Err(halt_of(fault)),
     }
 }
 
@@ -123,7 +194,9 @@ pub(crate) fn process_of(rows: &[Row], id: &Name) -> Option<u64>
 /// A supervisor, and what the processes of its children tell next.
 #[derive(Drop)]
 pub(crate) struct Stage {
-    core: Core,
+    supervisor: Supervisor,
+    /// The last process number.
+    last: u64,
     /// The orders since the last crash, but for answers.
     orders: Vec<Effect>,
     notes: VecDeque<Note>,
@@ -147,9 +220,9 @@ impl Stage {
         ensures ok { IfOk result (λ stage. Opens supervisor.now.flags supervisor.now.specs stage) }
         ensures full { IfErr result (λ halt. halt ≡ HistoryFull → OpeningFills supervisor.now.flags supervisor.now.specs) }
     {
-        let core = Core::of(alloc, supervisor.try_clone(alloc)?);
         let mut stage = Stage {
-            core,
+            supervisor: Supervisor::new(alloc, supervisor.try_clone(alloc)?),
+            last: 0,
             orders: Vec::new(alloc),
             notes: VecDeque::new(alloc),
         };
@@ -189,7 +262,7 @@ impl Stage {
     pub fn has_ended(&self) -> bool
         ensures { result ≡ is_over self.now.state.phase }
     {
-        self.core.has_ended()
+        self.supervisor.has_ended()
     }
 
     /// The orders since the last crash, but for answers.
@@ -203,7 +276,7 @@ impl Stage {
     pub fn process_of(&self, id: &Name) -> Option<u64>
         ensures { result ≡ process_of id.now self.now.state.rows }
     {
-        process_of(self.core.rows(), id)
+        process_of(self.supervisor.rows(), id)
     }
 
     /// Something happens at this time, in milliseconds.
@@ -212,9 +285,9 @@ impl Stage {
         ensures ok { OnOk result (self.new ≡ happened time kind self.old) }
         ensures full { IfErr result (λ halt. halt ≡ HistoryFull → IsFull self.old) }
     {
-        let last = self.core.last_number();
-        self.core.happen_after(MAX_EVENTS, time, &kind, last)?;
-        take_orders(&mut self.core, &mut self.notes, &mut self.orders)?;
+        let last = happen(&mut self.supervisor, time, &kind, self.last)?;
+        self.last = last;
+        take_orders(&mut self.supervisor, &mut self.notes, &mut self.orders)?;
         Ok(())
     }
 
@@ -225,7 +298,7 @@ impl Stage {
     {
         match self.notes.front() {
             Some(note) => Some(Kind::Took(Item::Note(*note))),
-            None => self.core.next_kind(time, false),
+            None => self.supervisor.next_kind(time, false),
         }
     }
 
@@ -249,7 +322,6 @@ impl Stage {
             self.hear();
             self.happen(time, kind)?;
         }
-        let _ = &self.core;
         Err(Halt::HistoryFull)
     }
 

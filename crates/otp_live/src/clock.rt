@@ -12,6 +12,7 @@ use std::time::{Clock, Instant};
 pub struct Stopwatch<'a, C> {
     clock: &'a C,
     begun: Option<Instant>,
+    // Whichever hand read last. An older reading does no harm, as a supervisor's clock never goes back: so no order is wanted.
     last: AtomicU64,
 }
 

@@ -18,8 +18,9 @@ const PATIENCE: u32 = 32;
 /// What the hands share: which supervisor rests where, by which they wake each other, and how far the run is.
 ///
 /// A hand writes down where a supervisor rests before it announces a sleep, and so before it looks for the last time; whoever sends a
-/// letter to that reads it after the sending. So either the look finds the letter, or the sender finds the hand and rings. Where a
-/// process waits for a signal, or to be woken, the [`Post`] knows in the same way.
+/// letter to that reads it after the sending. So either the look finds the letter, or the sender finds the hand and rings: the four
+/// steps stand in one order, as they are `SeqCst`, those of the inbox too. Where a process waits for a signal, or to be woken, the
+/// [`Post`] knows in the same way.
 #[derive(Drop)]
 pub(crate) struct Crew<'a, C, W, J: Drop, S: Drop> {
     pub clock: &'a Stopwatch<'a, C>,

@@ -84,7 +84,7 @@ where
     }
 }
 
-/// The same with the plans of so many supervisors alone, the first.
+/// Why a tree wasn't run or closed, with the plans of the first so many supervisors alone.
 fn without_places<J: Drop, S: Drop>(why: RunFault<J, S>, known: usize) -> RunFault<J, S>
     ensures { IsCutShort known why result }
 {

@@ -20,10 +20,11 @@
 //!
 //! # Sleep
 //!
-//! A hand that finds nothing to do sleeps ([`otp_wake::Bells`] says why no wake is lost): until a letter comes for a supervisor that
-//! waits in it, a signal for a process that waits in it, a wake for such a job, the next deadline of such a supervisor, or the stop;
-//! or until another hand has more to do than it gets done. A tree in which nothing happens takes no time of the processor, and a
-//! deadline fires without anybody polling. A bridge wants a turn again and again, so where one runs one hand is awake.
+//! A hand that finds nothing to do sleeps ([`otp_wake::Bells`] says why no wake is lost). It wakes for a letter to a supervisor
+//! that rests in it, for the next deadline of such a supervisor, for a signal to a process that waits in it, and for a wake of its
+//! job. It wakes for the stop, too, and where another hand has more to do than it gets done. A tree in which nothing happens takes
+//! no time of the processor, and a deadline fires without anybody polling. A bridge wants a turn again and again, so where one
+//! runs one hand is awake.
 #![tactic(auto)]
 
 pub mod clock;

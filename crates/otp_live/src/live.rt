@@ -19,6 +19,7 @@ use otp_caller::Caller;
 use otp_caller::locked::{Locked, ReachNaming};
 use otp_hand::TreeNaming;
 use otp_job::Job;
+use otp_open::slots_of;
 use otp_sup::SupNaming;
 use otp_tree::{Hand, Report, RunFault, System, TablePlan, Unopened};
 use otp_wake::{Post, Stop};
@@ -32,9 +33,9 @@ use std::time::{Clock, Duration};
 const PAUSE: u64 = 1;
 
 /// Opens a tree of 1 to 64 supervisors, the root first, and runs it with 1 to 8 hands, each in a thread of its own, until its root
-/// has ended. That is when it gave up, or was shut down by itself, or when the stop was raised, from any thread and at any time, also
-/// before: then it is asked to shut down, and stops its children in reverse start order, each within its time. At last the tree is
-/// closed, and its report comes out.
+/// has ended: by itself, as when it gives up, or because the stop is raised, from any thread and at any time, also before. By the
+/// stop it is asked to shut down, and stops its children in reverse start order, each within its time. At last the tree is closed,
+/// and its report comes out.
 ///
 /// The clock is the system's, in milliseconds since the call. The threads sleep while there is nothing to do.
 ///
@@ -74,7 +75,7 @@ where
     run_with_callers(rt, alloc, plans, hands, stop, watch, callers.as_slice())
 }
 
-/// The same, with these callers: by each of them a thread may call the tree's supervisors while it runs ([`Caller`]).
+/// Does what [`run`] does; by each of these callers a thread may call the tree's supervisors while it runs ([`Caller`]).
 pub fn run_with_callers<R, J, S, W>(
     rt: &R,
     alloc: Global,
@@ -256,12 +257,7 @@ pub fn close_callers<R: Wait, J: Drop, S: Drop>(rt: &R, callers: &[Caller<J, S>]
     }
 }
 
-/// The slots of signal words that a tree of so many supervisors has.
-fn slots_of(tables: usize) -> usize {
-    tables.saturating_mul(256).saturating_add(1)
-}
-
-/// The crew of a tree that is to be run.
+/// The crew of a tree that is to be run. Its post has a word for each slot of signal words that the tree has.
 fn gather<'a, C: Clock, W: Watch, J: Drop, S: Drop>(
     alloc: Global,
     clock: &'a Stopwatch<'a, C>,
@@ -271,7 +267,9 @@ fn gather<'a, C: Clock, W: Watch, J: Drop, S: Drop>(
     callers: &'a [Caller<J, S>],
     tables: usize,
     hands: usize,
-) -> Result<Crew<'a, C, W, J, S>, AllocError> {
+) -> Result<Crew<'a, C, W, J, S>, AllocError>
+    requires { tables ≤ MAX_TABLES }
+{
     let post = Post::open(alloc, slots_of(tables), stop.bells())?;
     let post = Arc::new(alloc, post)?;
     Crew::of(

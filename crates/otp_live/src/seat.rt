@@ -13,7 +13,8 @@ use std::time::Clock;
 pub(crate) struct Seat<'a, C, W, J: Drop, S: Drop> {
     pub crew: &'a Crew<'a, C, W, J, S>,
     pub hand: usize,
-    // Whether it served a supervisor since it was asked last.
+    // Whether it served a supervisor since it was asked last. The hand's own thread alone reads and writes these three, so no
+    // order is wanted; they are atomic since the seat is lent.
     served: AtomicU64,
     // What was told of its turns since it was asked last.
     steps: AtomicU64,

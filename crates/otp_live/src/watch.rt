@@ -25,8 +25,8 @@ pub trait Watch {
     /// Told of each thing that happens. By default nothing is done.
     fn saw(&self, _seen: Seen) {}
 
-    /// The same, by somebody who knows the path of the supervisor: `root`, or the ids from the root's child on, as `pool/cache`.
-    /// `None` where it is the root itself. By default `saw` is told.
+    /// Told of each thing that happens, with the path of the supervisor: the ids from the root's child on, as `pool/cache`, or
+    /// `root`; `None` where it is the root itself. By default `saw` is told.
     fn saw_at(&self, _path: Option<&[u8]>, seen: Seen) {
         self.saw(seen);
     }

@@ -305,7 +305,7 @@ where
     seen
 }
 
-/// The same where nobody watches.
+/// Runs a tree until it has ended, where nobody watches.
 pub fn unwatched<R>(rt: &R, alloc: Global, plans: Vec<Plan>, hands: usize, stop: &Stop) -> Outcome
 where
     R: Threads + Wait + Clock + Abort + Sync,

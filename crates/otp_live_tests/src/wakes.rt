@@ -183,7 +183,7 @@ fn make_shelf(rt: &impl Abort, alloc: Global) -> Shelf {
     }
 }
 
-// The same.
+// Another handle on what the reader and the test share.
 fn share(rt: &impl Abort, shelf: &Shelf) -> Shelf {
     Shelf {
         posts: got(rt, MEMORY, Arc::try_clone(&shelf.posts)),

@@ -42,7 +42,7 @@ pub struct Machine {
     pub spare_lines: Vec<ChildLine>,
     /// Memory for the stamps of an end by the intensity.
     pub spare_stamps: Vec<u64>,
-    /// The same for the copy of the end that is kept.
+    /// Memory for the stamps in the copy of the end that is kept.
     pub spare_kept_stamps: Vec<u64>,
 }
 
@@ -199,7 +199,7 @@ fn reserve_in_all<T: Drop>(list: &mut Vec<T>, count: usize) -> Result<(), AllocE
     list.reserve(count.saturating_sub(list.len()))
 }
 
-/// The same for the children that are to be started.
+/// Takes memory for this many children that are to be started.
 fn reserve_starts(list: &mut VecDeque<Due>, count: usize) -> Result<(), AllocError>
     requires { count < ROOM_LIMIT }
     ensures items { list.new.items ≡ list.old.items }

@@ -90,7 +90,7 @@ fn have_ended_in_order_with(numbers: &[u64], waiting: &Waits, resumed: bool, las
         <= count_left(waiting, resumed, *p) + (last == *p) as usize)
 }
 
-/// The same where an end of this process comes last.
+/// Whether [`have_ended`] is true once an end of this process waits behind the others.
 #[tactic(auto, using(crate::proofs::Going::ends_with_last))]
 pub fn have_ended_with(numbers: &[u64], waiting: &Waits, resumed: bool, last: u64) -> bool
     ensures { (reason : Reason) → result ≡ ends_wait (reverse numbers.now)

@@ -55,10 +55,17 @@ unfoldable pub clocks_text : Row → List ℕ
 clocks_text row = interval_text row ++ otp_text row
 
 -- what a crash stops and starts again
-unfoldable pub affected_text : Row → List ℕ
-affected_text row =
+unfoldable pub named_text : Row → List ℕ
+named_text row =
     key_text (codes ", ") (codes "stops") ++ names_text row.path row.own.stops
     ++ key_text (codes ", ") (codes "starts") ++ names_text row.path row.own.starts
+
+-- and how many processes these are, with those below
+unfoldable pub affected_text : Row → List ℕ
+affected_text row =
+    named_text row
+    ++ key_text (codes ", ") (codes "stopped") ++ decimal row.stopped
+    ++ key_text (codes ", ") (codes "started") ++ decimal row.started
 
 -- how the root fares, and who has given up then
 unfoldable pub fall_text : Row → List ℕ

@@ -2,7 +2,7 @@
 
 ghost use Rattle.std.specs.Prelude.{◌≡◌, ◌++◌, [], true, IfOk, OnOk};
 ghost use Rattle.std.specs.List.{flat_map};
-ghost use Rattle.otp_objects.specs.Limits.{TellsObject, TellsRows, affected_text, clocks_text, fall_text, fate_text, gone_value, head_text, interval_text, is_none, limits_text, next_row, otp_text, row_text, rows_text, steady_text, steady_value};
+ghost use Rattle.otp_objects.specs.Limits.{named_text, TellsObject, TellsRows, affected_text, clocks_text, fall_text, fate_text, gone_value, head_text, interval_text, is_none, limits_text, next_row, otp_text, row_text, rows_text, steady_text, steady_value};
 
 use crate::names::{write_names, write_paths};
 use otp_file::TreeSpec;
@@ -49,7 +49,7 @@ fn write_apart(steady: Steady, out: &mut Vec<u8>) -> Result<(), AllocError>
     }
 }
 
-/// Appends the same of a child that runs no more, and `null` for one that never ran.
+/// Appends how far apart crashes must be of a child that runs no more, and `null` for one that never ran.
 #[tactic(auto, unfolding(crate::specs::Limits::gone_value))]
 fn write_gone_apart(count: u64, steady: Steady, out: &mut Vec<u8>) -> Result<(), AllocError>
     ensures { OnOk result (out.new.items ≡ out.old.items ++ gone_value count (steady_value steady)) }
@@ -61,7 +61,7 @@ fn write_gone_apart(count: u64, steady: Steady, out: &mut Vec<u8>) -> Result<(),
     }
 }
 
-/// Appends the same of a child that fares so.
+/// Appends how far apart crashes must be of a child that fares so.
 #[tactic(auto, unfolding(crate::specs::Limits::steady_text))]
 fn write_steady(burst: Fate, steady: Steady, out: &mut Vec<u8>) -> Result<(), AllocError>
     ensures { OnOk result (out.new.items ≡ out.old.items ++ steady_text burst steady) }
@@ -92,7 +92,8 @@ fn write_interval(row: &Row, out: &mut Vec<u8>) -> Result<(), AllocError>
     write_steady(row.own.burst, row.own.steady, out)
 }
 
-/// Appends the same by the clock of OTP. A long text stands alone, since the prover's search loses it among others.
+/// Appends how far apart crashes must be by the clock of OTP. A long text stands alone, since the prover's search loses it among
+/// others.
 #[tactic(auto, unfolding(crate::specs::Limits::otp_text))]
 fn write_otp(row: &Row, out: &mut Vec<u8>) -> Result<(), AllocError>
     ensures { OnOk result (out.new.items ≡ out.old.items ++ otp_text row.now) }
@@ -110,10 +111,22 @@ fn write_clocks(row: &Row, out: &mut Vec<u8>) -> Result<(), AllocError>
     write_otp(row, out)
 }
 
-/// Appends what a crash stops and starts again.
+/// Appends what a crash stops and starts again, and how many processes these are, with those below.
 #[tactic(auto, unfolding(crate::specs::Limits::affected_text))]
 fn write_affected(row: &Row, word: &mut Vec<u8>, out: &mut Vec<u8>) -> Result<(), AllocError>
     ensures { OnOk result (out.new.items ≡ out.old.items ++ affected_text row.now) }
+{
+    write_named(row, word, out)?;
+    put_key(b", ", b"stopped", out)?;
+    write_number(row.stopped, out)?;
+    put_key(b", ", b"started", out)?;
+    write_number(row.started, out)
+}
+
+/// Appends the children that a crash stops and starts again.
+#[tactic(auto, unfolding(crate::specs::Limits::named_text))]
+fn write_named(row: &Row, word: &mut Vec<u8>, out: &mut Vec<u8>) -> Result<(), AllocError>
+    ensures { OnOk result (out.new.items ≡ out.old.items ++ named_text row.now) }
 {
     put_key(b", ", b"stops", out)?;
     write_names(row.path.as_bytes(), row.own.stops.as_slice(), word, out)?;
@@ -226,8 +239,8 @@ fn tell_rows(
 }
 
 /// Appends what the failure of those children of a tree costs that are asked for, as an object with the name of its file, and
-/// says whether there are any: `false` where a child or a supervisor of a name is asked for and there is none, and then nothing
-/// is appended.
+/// says whether there are any. Where a child or a supervisor of a name is asked for and there is none, it says `false` and appends
+/// nothing.
 ///
 /// # Errors
 ///

@@ -1,13 +1,13 @@
 -- Supervisors that are added to a tree. (own)
-use Rattle.std.specs.Prelude.{◌≡◌, ℕ, ◌≤◌, ⊤, List, [], ◌∷◌, All, Bool, MatchOption, Option, true, length, nat_lt, slice_get}
+use Rattle.std.specs.Prelude.{◌≡◌, ℕ, ◌+◌, ◌≤◌, ⊤, List, [], ◌∷◌, All, Bool, MatchOption, Option, true, length, nat_lt, slice_get}
 use Rattle.std.specs.List.{AllPass}
-use Rattle.otp_bodies.specs.Bodies.{BodiesView}
+use Rattle.otp_bodies.specs.Bodies.{BodiesView, handed_in}
 use Rattle.otp_draft.specs.Plans.{IsNear}
 use Rattle.otp_job.specs.declared.body.Body.{Body}
 use Rattle.otp_job.specs.declared.body.Body.TheVariants as body
 use Rattle.otp_run.specs.Lists.{AllAt}
 use Rattle.otp_spec.specs.Supervisor.{Supervisor}
-use Rattle.otp_sup.specs.Anew.{IsOccupied}
+use Rattle.otp_sup.specs.Anew.{IsOccupied, PlannedUnder}
 use Rattle.otp_open.specs.declared.plan.TablePlan.{TablePlan}
 
 -- some place is occupied
@@ -15,6 +15,12 @@ abbrev pub IsAnyOccupied : (ℕ → Option Supervisor) → Type 0
 IsAnyOccupied plans = (inbox : ℕ) × IsOccupied plans inbox
 
 module _ {J S : Type 0} where
+  -- in places from this one on, one after the other, a table that had no event got the supervisor of each plan: with its flags and its
+  -- specifications, and a body for each of as many of these as the plan has bodies
+  abbrev pub ArePlannedFrom : (ℕ → Option Supervisor) → ℕ → List (TablePlan J S) → Type 0
+  ArePlannedFrom plans first [] = ⊤
+  ArePlannedFrom plans first (plan ∷ rest) = PlannedUnder plans first plan.supervisor (handed_in (length plan.bodies.items)) × ArePlannedFrom plans (first + 1) rest
+
   -- it is no supervisor, or one with a number below this one
   abbrev pub is_within : ℕ → Body J S → Bool
   is_within count (body.Sup number) = nat_lt number count

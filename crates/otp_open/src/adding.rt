@@ -4,9 +4,10 @@ ghost use Rattle.std.specs.Prelude.{◌≡◌, ◌+◌, ◌<◌, ◌≤◌, ℕ,
 ghost use Rattle.std.specs.List.{AllPass};
 ghost use Rattle.otp_draft.specs.Plans.{IsNear};
 ghost use Rattle.otp_spec.specs.declared.limits.TheConstants.{MAX_TABLES};
-ghost use Rattle.otp_open.specs.Adds.{AreNear, AreWithin, Fit, IsAnyOccupied, IsSpaceFor, IsStrangerAt, is_within};
+ghost use Rattle.otp_open.specs.Adds.{AreNear, ArePlannedFrom, AreWithin, Fit, IsAnyOccupied, IsSpaceFor, IsStrangerAt, is_within};
 ghost use Rattle.otp_open.specs.Plans.{HasBodies, HaveBodies, IsLackingAt, LacksBody};
-ghost use Rattle.otp_sup.specs.Anew.{IsOccupied};
+ghost use Rattle.otp_sup.specs.Anew.{IsOccupied, PlannedUnder};
+ghost use Rattle.otp_bodies.specs.Bodies.{handed_in};
 
 use crate::plan::TablePlan;
 use otp_draft::number_bodies;
@@ -30,7 +31,7 @@ pub fn find_lacking<J: Drop, S: Drop>(plans: &[TablePlan<J, S>]) -> Option<usize
     None
 }
 
-/// Whether it has fewer bodies than an opening makes children.
+/// Whether the plan has fewer bodies than an opening makes children.
 fn lacks_body<J: Drop, S: Drop>(plan: &TablePlan<J, S>) -> bool
     ensures lacks { IsTrue result → LacksBody plan.now }
     ensures has { result ≡ false → HasBodies plan.now }
@@ -54,7 +55,7 @@ pub fn find_stranger<J: Drop, S: Drop>(plans: &[TablePlan<J, S>]) -> Option<usiz
     None
 }
 
-/// Whether each of them that is a supervisor has a number below this one.
+/// Whether each of these bodies that is a supervisor has a number below this one.
 fn are_within<J: Drop, S: Drop>(bodies: &[Body<J, S>], count: usize) -> bool
     requires { count ≤ MAX_TABLES }
     ensures within { IsTrue result → AllPass (is_within count) bodies.now }
@@ -69,7 +70,7 @@ fn are_within<J: Drop, S: Drop>(bodies: &[Body<J, S>], count: usize) -> bool
     true
 }
 
-/// Whether it is no supervisor, or one with a number below this one.
+/// Whether the body is no supervisor, or one with a number below this one.
 fn is_within<J: Drop, S: Drop>(body: &Body<J, S>, count: usize) -> bool
     requires { count ≤ MAX_TABLES }
     ensures value { result ≡ is_within count body.now }
@@ -116,7 +117,9 @@ fn plan_one<N: SupNaming, J: Drop, S: Drop, R: Wait>(
     requires space { IsSpaceFor plan space }
     requires near { All IsNear plan.bodies.items }
     requires few { first < MAX_TABLES }
-    ensures { result ≡ false → IsOccupied N.plan sup.now.inbox }
+    ensures occupied { result ≡ false → IsOccupied N.plan sup.now.inbox }
+    // It is this plan's supervisor that a table of the place got.
+    ensures planned { IsTrue result → PlannedUnder N.plan sup.now.inbox plan.supervisor (handed_in (length plan.bodies.items)) }
 {
     let TablePlan {
         supervisor,
@@ -180,7 +183,9 @@ pub fn plan_all<N: SupNaming, J: Drop, S: Drop, R: Wait>(
     requires bodies { HaveBodies plans.items }
     requires near { AreNear plans.items }
     requires fit { Fit plans.items spaces.items }
-    ensures { result ≡ false → first + length plans.items ≤ shared.now.tables → IsAnyOccupied N.plan }
+    ensures occupied { result ≡ false → first + length plans.items ≤ shared.now.tables → IsAnyOccupied N.plan }
+    // Each place got the supervisor of its own plan.
+    ensures planned { IsTrue result → ArePlannedFrom N.plan first plans.items }
 {
     let mut spaces = spaces.into_iter();
     let mut number = first;

@@ -1,6 +1,7 @@
 //! A hand is made for each scheduler, with a sender to each supervisor and a pass to the counts of each.
-ghost use Rattle.std.specs.Prelude.{◌≡◌, ℕ, ◌+◌, ◌<◌, IfOk, OnOk, IfSome, length, map};
+ghost use Rattle.std.specs.Prelude.{◌≡◌, ℕ, ◌+◌, ◌<◌, IfOk, OnOk, IfSome, Some, length, map};
 ghost use Rattle.otp_inbox.specs.Tokens.{first_sender};
+ghost use Rattle.otp_job.specs.Processes.{nested_table_of};
 ghost use Rattle.otp_run.specs.Lists.{AllAt};
 ghost use Rattle.otp_open.specs.Opens.{AreOpened, HasRootOnly, IsIdle, IsOpened};
 ghost use Rattle.otp_hand.specs.Begun.{starts_credited};
@@ -43,12 +44,13 @@ pub fn seat<N: InboxNaming, B: Drop>(
     Ok(Senders { list: senders })
 }
 
-/// Puts the root's process into the deque of the first scheduler.
+/// Puts the root's process, in which the supervisor with number 0 runs, into the deque of the first scheduler.
 fn begin<N: RunNaming, J: Drop, S: Drop>(
     schedulers: &mut [Scheduler<N, J, S>],
     root: Process<J, S>,
 ) -> Result<(), AllocError>
-    requires { AllAt (IsIdle (length schedulers.old)) schedulers.old }
+    requires idle { AllAt (IsIdle (length schedulers.old)) schedulers.old }
+    requires root { nested_table_of root.body ≡ Some 0 }
     ensures begun { OnOk result (AllAt (IsOpened root.ticket (length schedulers.old)) schedulers.new) }
     ensures many { length schedulers.new ≡ length schedulers.old }
 {
@@ -61,12 +63,13 @@ fn begin<N: RunNaming, J: Drop, S: Drop>(
     }
 }
 
-/// The same of a whole list: of one that was lent as a slice in the midst of a function the prover knows nothing after.
+/// Calls [`begin`] with a whole list: of a list that was lent as a slice in the midst of a function the prover knows nothing after.
 fn begin_first<N: RunNaming, J: Drop, S: Drop>(
     schedulers: &mut Vec<Scheduler<N, J, S>>,
     root: Process<J, S>,
 ) -> Result<(), AllocError>
-    requires { AllAt (IsIdle (length schedulers.old.items)) schedulers.old.items }
+    requires idle { AllAt (IsIdle (length schedulers.old.items)) schedulers.old.items }
+    requires root { nested_table_of root.body ≡ Some 0 }
     ensures begun { OnOk result (AllAt (IsOpened root.ticket (length schedulers.old.items)) schedulers.new.items) }
     ensures many { length schedulers.new.items ≡ length schedulers.old.items }
 {
@@ -169,7 +172,9 @@ pub fn make_hands<N: TreeNaming, J: Drop, S: Drop>(
     mut viewer: Viewer<N>,
     root: Process<J, S>,
 ) -> Result<Vec<Hand<N, J, S>>, AllocError>
-    requires { AllAt (IsIdle (length schedulers.items)) schedulers.items }
+    requires idle { AllAt (IsIdle (length schedulers.items)) schedulers.items }
+    // The root's process runs the supervisor with number 0.
+    requires root { nested_table_of root.body ≡ Some 0 }
     ensures opened { IfOk result (λ hands. AreOpened root.ticket (length schedulers.items) hands.items) }
     ensures hands { IfOk result (λ hands. CanRead (length passes.old.items) hands.items) }
     ensures same { OnOk result (passes.new.items ≡ passes.old.items) }

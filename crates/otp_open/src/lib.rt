@@ -21,7 +21,7 @@ pub mod spares;
 pub use adding::{are_unused, find_lacking, find_stranger, make_spaces, plan_all};
 pub use draft::{TableDraft, Unplanned};
 pub use hands::{make_hands, seat};
-pub use opening::{SLOTS, Site, SystemFault, Unopened};
+pub use opening::{Site, SystemFault, Unopened, slots_of};
 pub use plan::TablePlan;
 pub use ready::{Readied, ReadyPlace, open_inboxes, ready_all};
 pub use spares::{with_spares, without_spares};

@@ -2,6 +2,7 @@
 ghost use Rattle.std.specs.Prelude.{◌≡◌, ◌<◌, ◌≤◌, [], length, vec_capacity};
 ghost use Rattle.otp_spec.specs.declared.limits.TheConstants.{MAX_TABLES};
 ghost use Rattle.otp_run.specs.Lists.{AllAt};
+ghost use Rattle.otp_open.specs.Opens.{slots_of};
 ghost use Rattle.otp_open.specs.Plans.{ArePlanned, HasBodies, HaveBodies};
 ghost use Rattle.otp_open.specs.Readies.{AreReadyFor, IsReadyFor};
 ghost use Rattle.otp_open.specs.declared.opening.SystemFault.TheVariants.{OutOfMemory};
@@ -20,6 +21,14 @@ use std::alloc::Global;
 
 /// How many slots of signal words each supervisor has: one for each child that there can be.
 pub const SLOTS: usize = MAX_CHILDREN;
+
+/// How many slots of signal words a tree of so many supervisors has: those of each, and the root's own.
+pub fn slots_of(tables: usize) -> usize
+    requires { tables ≤ MAX_TABLES }
+    ensures { result ≡ slots_of tables }
+{
+    1 + SLOTS * tables
+}
 
 /// Why a tree was not opened.
 #[derive(Clone, Copy, Debug, PartialEq, Eq)]
@@ -68,7 +77,8 @@ impl<N: SupNaming, J: Drop, S: Drop> Site<N, J, S> {
         }
     }
 
-    /// The same once each place has the supervisor of its plan. The list is empty, and has the room for them. Takes no memory.
+    /// The tree's shared parts, once each place has the supervisor of its plan. `sups` is empty and has room for them. No memory is
+    /// taken.
     pub fn open(
         self,
         alloc: Global,

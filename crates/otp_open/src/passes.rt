@@ -17,7 +17,7 @@ fn split_each(alloc: Global, passes: &mut [CountsPass]) -> Result<Vec<CountsPass
     Ok(all)
 }
 
-/// The same of a whole list.
+/// Another pass beside each of this list, in their order.
 pub fn split_all(alloc: Global, passes: &mut Vec<CountsPass>) -> Result<Vec<CountsPass>, AllocError>
     ensures same { OnOk result (passes.new.items ≡ passes.old.items) }
     ensures split { IfOk result (λ all. all.items ≡ map renewed passes.old.items) }

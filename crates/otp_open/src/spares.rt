@@ -34,7 +34,7 @@ pub fn with_spares<J: Drop, S: Drop>(
     Ok(padded(alloc, all, spares))
 }
 
-/// The same, with the room for so many spare places.
+/// These plans, and behind them so many of spare places, for which the list has room.
 fn padded<J: Drop, S: Drop>(
     alloc: Global,
     plans: Vec<TablePlan<J, S>>,

@@ -16,9 +16,9 @@ use thiserror::Error;
 /// What of a checkpoint isn't in order.
 #[derive(Clone, Copy, Debug, PartialEq, Eq, Error)]
 pub enum OrderFault {
-    /// The open work and the rows don't belong together: more answers are awaited than the work may await, a process is to be
-    /// stopped that no child has, something is to be done though no work is open, or work is open though the supervisor
-    /// has ended; or an end starts children.
+    /// The open work and the rows don't belong together: more answers are awaited than the work may await, or a process is to be
+    /// stopped that no child has. So it is too where something is to be done though no work is open, where work is open though the
+    /// supervisor has ended, and where an end starts children.
     #[error("the open work does not fit the rows")]
     Work,
     /// Two children have one process, or one has a greater number than any that was given.

@@ -68,14 +68,14 @@ fn is_covered(number: u64, to_stop: &[u64], rows: &[Row]) -> bool
     count_in(to_stop, number) <= count_running(rows, number)
 }
 
-/// Whether each process that is to be stopped is.
+/// Whether each process that is to be stopped is a child's that runs, as often as it is to be stopped.
 pub(crate) fn are_covered(to_stop: &[u64], rows: &[Row]) -> bool
     ensures { IsTrue result ↔ All (λ p. is_covered to_stop.now rows.now p ≡ true) to_stop.now }
 {
     are_all_covered(to_stop, to_stop, rows)
 }
 
-/// The same of these processes.
+/// Whether each of these processes is a child's that runs, as often as it is to be stopped.
 fn are_all_covered(numbers: &[u64], to_stop: &[u64], rows: &[Row]) -> bool
     ensures { IsTrue result ↔ All (λ p. is_covered to_stop.now rows.now p ≡ true) numbers.now }
 {
@@ -114,7 +114,7 @@ fn is_lone(row: &Row, greatest: u64, rows: &[Row]) -> bool
     }
 }
 
-/// Whether that is so of each child.
+/// Whether each child's process, if it has one, is no other's, and its number is no greater than any given.
 pub(crate) fn are_lone(greatest: u64, rows: &[Row]) -> bool
     ensures { IsTrue result ↔ All (λ row. is_lone greatest rows.now row ≡ true) rows.now }
 {

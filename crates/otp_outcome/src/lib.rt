@@ -1,5 +1,5 @@
-//! What came of a run of a tree, in words: why each supervisor ended, and what a run that isn't finished awaits. And the same as an
-//! object of JSON on a line.
+//! What came of a run of a tree, in words and as an object of JSON on a line: why each supervisor ended, and what a run that isn't
+//! finished awaits.
 #![tactic(auto)]
 
 mod awaited;

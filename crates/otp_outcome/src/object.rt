@@ -117,9 +117,9 @@ fn write_run(
     out.extend_from_slice(b"}\n")
 }
 
-/// Appends what came of a run of a tree, as an object with the name of its file: of each supervisor, by its path, how many starts
-/// it ordered, how many restarts it made since it was started last, the reason of its last end, and why it ended; and how many
-/// processes are left.
+/// Appends what came of a run of a tree, as an object with the name of its file, and how many processes are left. Of each
+/// supervisor it has, by its path, how many starts it ordered, how many restarts it made since it was started last, the reason of
+/// its last end, and why it ended.
 ///
 /// # Errors
 ///

@@ -15,6 +15,7 @@ use Rattle.otp_html.specs.Markup.{element}
 use Rattle.otp_limits.specs.Falls.{supervisor_path}
 use Rattle.otp_limits.specs.declared.fate.Fate.{Fate}
 use Rattle.otp_limits.specs.declared.fate.Fate.TheVariants as fate
+use Rattle.otp_reason.specs.declared.name.Name.{Name}
 use Rattle.otp_pages.specs.Names.{names_html, path_html, paths_html}
 use Rattle.otp_pages.specs.declared.fates.TheConstants.{FULL}
 
@@ -74,10 +75,18 @@ alike_html row =
 unfoldable pub child_cell : Row → List ℕ
 child_cell row = element (codes "<tr><th scope=\"row\"><code>") (below row.path row.own.id) (codes "</code>") ++ alike_html row ++ codes "</th>\n"
 
+-- how many processes some children are with those below, where there are some below
+unfoldable pub count_html : ℕ → ℕ → List ℕ
+count_html children processes =
+    if nat_le processes children then [] else codes "<small>" ++ decimal processes ++ codes " with those below</small>"
+
+-- these children
+unfoldable pub affected_cell : List ℕ → List Name → ℕ → List ℕ
+affected_cell path names processes = codes "<td>" ++ names_html path names ++ count_html (length names) processes ++ codes "</td>\n"
+
 -- what a crash stops and starts again
 unfoldable pub affected_cells : Row → List ℕ
-affected_cells row =
-    codes "<td>" ++ names_html row.path row.own.stops ++ codes "</td>\n<td>" ++ names_html row.path row.own.starts ++ codes "</td>\n"
+affected_cells row = affected_cell row.path row.own.stops row.stopped ++ affected_cell row.path row.own.starts row.started
 
 unfoldable pub row_html : Row → List ℕ
 row_html row = child_cell row ++ burst_cell row.own.burst ++ clock_cell row ++ affected_cells row ++ giver_cell row ++ root_cell row

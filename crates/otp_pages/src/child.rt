@@ -58,7 +58,7 @@ fn put_shutdown_words(shutdown: Shutdown, out: &mut Vec<u8>) -> Result<(), Alloc
     }
 }
 
-/// Appends the same as a tag.
+/// Appends how long a child may take to end, as a tag.
 #[tactic(auto, unfolding(crate::specs::Trees::shutdown_tag))]
 fn put_shutdown(shutdown: Shutdown, out: &mut Vec<u8>) -> Result<(), AllocError>
     ensures { OnOk result (out.new.items ≡ out.old.items ++ shutdown_tag shutdown) }

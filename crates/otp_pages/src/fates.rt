@@ -84,7 +84,7 @@ fn put_interval(row: &Row, out: &mut Vec<u8>) -> Result<(), AllocError>
     out.extend_from_slice(b"</td>\n")
 }
 
-/// Appends the cell of the same by the clock of OTP, and the one before.
+/// Appends the cells of how far apart crashes must be, by this clock and by OTP's.
 #[tactic(auto, unfolding(crate::specs::Costs::clock_cell))]
 pub(crate) fn put_intervals(row: &Row, out: &mut Vec<u8>) -> Result<(), AllocError>
     ensures { OnOk result (out.new.items ≡ out.old.items ++ clock_cell row.now) }

@@ -90,8 +90,8 @@ fn tell_rows(
 }
 
 /// Appends what the failure of those children of a tree costs that are asked for, as a page of HTML with the name of its file, and
-/// says whether there are any: `false` where a child or a supervisor of a name is asked for and there is none, and then nothing is
-/// appended.
+/// says whether there are any. Where a child or a supervisor of a name is asked for and there is none, it says `false` and appends
+/// nothing.
 ///
 /// # Errors
 ///

@@ -2,12 +2,13 @@
 
 ghost use Rattle.std.specs.Prelude.{◌≡◌, ◌++◌, OnOk};
 ghost use Rattle.std.specs.List.{flat_map};
-ghost use Rattle.otp_pages.specs.Costs.{affected_cells, alike_html, child_cell, row_html};
+ghost use Rattle.otp_pages.specs.Costs.{affected_cell, affected_cells, alike_html, child_cell, count_html, row_html};
 
 use crate::fates::{put_burst, put_giver, put_intervals, put_root};
 use crate::names::{put_below, put_names};
 use otp_folds::Row;
 use otp_html::put_element;
+use otp_reason::Name;
 use otp_text::write_number;
 use std::alloc::AllocError;
 
@@ -43,16 +44,44 @@ fn put_child(row: &Row, word: &mut Vec<u8>, out: &mut Vec<u8>) -> Result<(), All
     out.extend_from_slice(b"</th>\n")
 }
 
+/// Appends how many processes some children are with those below, where there are some below.
+#[tactic(auto, unfolding(crate::specs::Costs::count_html))]
+fn put_count(children: u64, processes: u64, out: &mut Vec<u8>) -> Result<(), AllocError>
+    ensures { OnOk result (out.new.items ≡ out.old.items ++ count_html children processes) }
+{
+    if processes <= children {
+        return Ok(());
+    }
+    out.extend_from_slice(b"<small>")?;
+    write_number(processes, out)?;
+    out.extend_from_slice(b" with those below</small>")
+}
+
+/// Appends the cell of these children.
+#[tactic(auto, unfolding(crate::specs::Costs::affected_cell))]
+fn put_cell(
+    path: &[u8],
+    names: &[Name],
+    processes: u64,
+    word: &mut Vec<u8>,
+    out: &mut Vec<u8>,
+) -> Result<(), AllocError>
+    ensures { OnOk result (out.new.items ≡ out.old.items ++ affected_cell path.now names.now processes) }
+{
+    out.extend_from_slice(b"<td>")?;
+    put_names(path, names, word, out)?;
+    put_count(names.len() as u64, processes, out)?;
+    out.extend_from_slice(b"</td>\n")
+}
+
 /// Appends the cells of what a crash stops and starts again.
 #[tactic(auto, unfolding(crate::specs::Costs::affected_cells))]
 fn put_affected(row: &Row, word: &mut Vec<u8>, out: &mut Vec<u8>) -> Result<(), AllocError>
     ensures { OnOk result (out.new.items ≡ out.old.items ++ affected_cells row.now) }
 {
-    out.extend_from_slice(b"<td>")?;
-    put_names(row.path.as_bytes(), row.own.stops.as_slice(), word, out)?;
-    out.extend_from_slice(b"</td>\n<td>")?;
-    put_names(row.path.as_bytes(), row.own.starts.as_slice(), word, out)?;
-    out.extend_from_slice(b"</td>\n")
+    let path = row.path.as_bytes();
+    put_cell(path, row.own.stops.as_slice(), row.stopped, word, out)?;
+    put_cell(path, row.own.starts.as_slice(), row.started, word, out)
 }
 
 /// Appends a row.

@@ -12,7 +12,7 @@ use Rattle.otp_folds.specs.declared.pick.Pick.{Pick}
 use Rattle.otp_pages.specs.Costs.{TellsLimits}
 use Rattle.otp_pages.specs.Trees.{TellsTree}
 use Rattle.otp_tried.specs.Objects.{TellsRun}
-use Rattle.otp_tried.specs.Timeline.{timeline_page}
+use Rattle.otp_tried.specs.Timeline.{TellsPage}
 use Rattle.otp_ending.specs.Devices.{HasTree}
 use Rattle.otp_ending.specs.declared.ending.ProgramEnd.{ProgramEnd}
 use Rattle.otp_ending.specs.declared.ending.ProgramEnd.TheVariants.{Done, NoTree, NotFound, HistoryFull, OutputFailed, OutOfMemory}
@@ -47,7 +47,7 @@ IsRunOf file account ending = (tree : Tree) × (Says file (Ok tree) × (IsAccoun
 
 -- as a page
 abbrev pub IsRunPage : List ℕ → List ℕ → ProgramEnd → List ℕ → Type 0
-IsRunPage name file ending page = (account : Account) × (IsRunOf file account ending × (page ≡ timeline_page name account.trial account))
+IsRunPage name file ending page = (account : Account) × (IsRunOf file account ending × TellsPage name account page)
 
 -- as an object
 abbrev pub IsRunObject : List ℕ → List ℕ → ProgramEnd → List ℕ → Type 0

@@ -12,29 +12,31 @@ use Rattle.otp_try.specs.declared.play.TryEnd.{TryEnd}
 use Rattle.otp_try.specs.declared.play.TryEnd.TheVariants as trial
 use Rattle.otp_ending.specs.Devices.{HasTree}
 use Rattle.otp_ending.specs.declared.ending.ProgramEnd.{ProgramEnd}
-use Rattle.otp_ending.specs.declared.ending.ProgramEnd.TheVariants.{Done, NoTree, LogRefused, ScriptRefused, ScriptMissed, ExpectationFailed, HistoryFull, InputFailed, OutputFailed, OutOfMemory}
+use Rattle.otp_ending.specs.declared.ending.ProgramEnd.TheVariants.{Done, NoTree, LogRefused, ScriptRefused, ScriptMissed, ExpectationFailed, NothingPlayed, HistoryFull, InputFailed, OutputFailed, OutOfMemory}
 
 -- the file says a tree, and what was written is the replay of this log that ended so
-abbrev pub WasReplayed : TryEnd → List ℕ → List ℕ → Bool → Option (List ℕ) → Option (List ℕ) → Type 0
-WasReplayed end file text is_listed before now =
-    (tree : Tree) × (Says file (Ok tree) × ((tells : Bool) × Replays (Tried end) tree text tells is_listed before now))
+abbrev pub WasReplayed : TryEnd → List ℕ → List ℕ → List ℕ → Bool → Option (List ℕ) → Option (List ℕ) → Type 0
+WasReplayed end file log text is_listed before now =
+    (tree : Tree) × (Says file (Ok tree) × ((tells : Bool) × Replays (Tried end) tree log text tells is_listed before now))
 
 -- the log of this name was replayed on the tree of a file, or it was refused and nothing was written; want of memory may end it
 -- before, and says nothing of either
 abbrev pub IsReplay : Bor (List ℕ) → List ℕ → Bool → List ℕ → ProgramEnd → List ℕ → Written → Written → Type 0
-IsReplay log text is_listed name Done file old new = WasReplayed trial.Done file text is_listed old.bytes new.bytes
+IsReplay log text is_listed name Done file old new = WasReplayed trial.Done file log.now text is_listed old.bytes new.bytes
 IsReplay log text is_listed name (NoTree why named) file old new = (new ≡ old) × ((named.now ≡ name) × IsFirstFault why file)
 IsReplay log text is_listed name (LogRefused what why) file old new =
     (new.bytes ≡ old.bytes) × ((what ≡ log) × (HasTree file × (log_in text ≡ Err why)))
 IsReplay log text is_listed name (ScriptRefused line why) file old new =
-    WasReplayed (trial.LineRefused line why) file text is_listed old.bytes new.bytes
+    WasReplayed (trial.LineRefused line why) file log.now text is_listed old.bytes new.bytes
 IsReplay log text is_listed name (ScriptMissed line why) file old new =
-    WasReplayed (trial.LineMissed line why) file text is_listed old.bytes new.bytes
+    WasReplayed (trial.LineMissed line why) file log.now text is_listed old.bytes new.bytes
+    ⊎ WasReplayed (trial.LeftOut line why) file log.now text is_listed old.bytes new.bytes
 IsReplay log text is_listed name (ExpectationFailed line) file old new =
-    WasReplayed (trial.ExpectationFailed line) file text is_listed old.bytes new.bytes
-IsReplay log text is_listed name HistoryFull file old new = WasReplayed trial.HistoryFull file text is_listed old.bytes new.bytes
-IsReplay log text is_listed name InputFailed file old new = WasReplayed trial.InputFailed file text is_listed old.bytes new.bytes
-IsReplay log text is_listed name OutputFailed file old new = WasReplayed trial.OutputFailed file text is_listed old.bytes new.bytes
+    WasReplayed (trial.ExpectationFailed line) file log.now text is_listed old.bytes new.bytes
+IsReplay log text is_listed name NothingPlayed file old new = WasReplayed trial.NothingPlayed file log.now text is_listed old.bytes new.bytes
+IsReplay log text is_listed name HistoryFull file old new = WasReplayed trial.HistoryFull file log.now text is_listed old.bytes new.bytes
+IsReplay log text is_listed name InputFailed file old new = WasReplayed trial.InputFailed file log.now text is_listed old.bytes new.bytes
+IsReplay log text is_listed name OutputFailed file old new = WasReplayed trial.OutputFailed file log.now text is_listed old.bytes new.bytes
 IsReplay log text is_listed name OutOfMemory file old new =
-    (new ≡ old) ⊎ WasReplayed trial.OutOfMemory file text is_listed old.bytes new.bytes
+    (new ≡ old) ⊎ WasReplayed trial.OutOfMemory file log.now text is_listed old.bytes new.bytes
 IsReplay log text is_listed name _ file old new = ⊥

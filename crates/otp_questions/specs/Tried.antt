@@ -8,7 +8,7 @@ use Rattle.otp_try.specs.Pages.{Tries}
 use Rattle.otp_try.specs.declared.play.TryEnd.{TryEnd}
 use Rattle.otp_try.specs.declared.play.TryEnd.TheVariants as trial
 use Rattle.otp_ending.specs.declared.ending.ProgramEnd.{ProgramEnd}
-use Rattle.otp_ending.specs.declared.ending.ProgramEnd.TheVariants.{Done, NoTree, ScriptRefused, ScriptMissed, ExpectationFailed, HistoryFull, InputFailed, OutputFailed, OutOfMemory}
+use Rattle.otp_ending.specs.declared.ending.ProgramEnd.TheVariants.{Done, NoTree, ScriptRefused, ScriptMissed, ExpectationFailed, NothingPlayed, HistoryFull, InputFailed, OutputFailed, OutOfMemory}
 
 -- how the program ends that tried a tree
 abbrev pub ending_of_try : TryEnd → ProgramEnd
@@ -16,6 +16,8 @@ ending_of_try trial.Done = Done
 ending_of_try (trial.LineRefused line why) = ScriptRefused line why
 ending_of_try (trial.LineMissed line why) = ScriptMissed line why
 ending_of_try (trial.ExpectationFailed line) = ExpectationFailed line
+ending_of_try (trial.LeftOut line why) = ScriptMissed line why
+ending_of_try trial.NothingPlayed = NothingPlayed
 ending_of_try trial.HistoryFull = HistoryFull
 ending_of_try trial.InputFailed = InputFailed
 ending_of_try trial.OutputFailed = OutputFailed
@@ -32,8 +34,10 @@ abbrev pub IsTrial : List ℕ → ProgramEnd → List ℕ → Devices → Device
 IsTrial name Done file old new = WasTried trial.Done file old new
 IsTrial name (NoTree why named) file old new = (new ≡ old) × ((named.now ≡ name) × IsFirstFault why file)
 IsTrial name (ScriptRefused line why) file old new = WasTried (trial.LineRefused line why) file old new
-IsTrial name (ScriptMissed line why) file old new = WasTried (trial.LineMissed line why) file old new
+IsTrial name (ScriptMissed line why) file old new =
+    WasTried (trial.LineMissed line why) file old new ⊎ WasTried (trial.LeftOut line why) file old new
 IsTrial name (ExpectationFailed line) file old new = WasTried (trial.ExpectationFailed line) file old new
+IsTrial name NothingPlayed file old new = WasTried trial.NothingPlayed file old new
 IsTrial name HistoryFull file old new = WasTried trial.HistoryFull file old new
 IsTrial name InputFailed file old new = WasTried trial.InputFailed file old new
 IsTrial name OutputFailed file old new = WasTried trial.OutputFailed file old new

@@ -32,7 +32,14 @@ pub fn replay_file<'a, W: Output>(
         Ok(tree) => tree,
         Err(fault) => return ProgramEnd::of_no_tree(fault, name),
     };
-    match replay(alloc, tree, log.text, replaying, output) {
+    match replay(
+        alloc,
+        tree,
+        log.name.as_bytes(),
+        log.text,
+        replaying,
+        output,
+    ) {
         ReplayEnd::Tried(end) => end_of_try(end),
         ReplayEnd::LogRefused(fault) => ProgramEnd::LogRefused(log.name, fault),
     }

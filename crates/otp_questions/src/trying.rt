@@ -38,6 +38,8 @@ pub(crate) fn end_of_try<'a>(end: TryEnd) -> ProgramEnd<'a>
         TryEnd::LineRefused(line, fault) => ProgramEnd::ScriptRefused(line, fault),
         TryEnd::LineMissed(line, taken) => ProgramEnd::ScriptMissed(line, taken),
         TryEnd::ExpectationFailed(line) => ProgramEnd::ExpectationFailed(line),
+        TryEnd::LeftOut(line, taken) => ProgramEnd::ScriptMissed(line, taken),
+        TryEnd::NothingPlayed => ProgramEnd::NothingPlayed,
         TryEnd::HistoryFull => ProgramEnd::HistoryFull,
         TryEnd::InputFailed => ProgramEnd::InputFailed,
         TryEnd::OutputFailed => ProgramEnd::OutputFailed,

@@ -5,6 +5,7 @@ pub mod Standing
 pub mod Awaiting
 pub mod Prompt
 pub mod Unused
+pub mod Fate
 pub mod Verdict
 pub mod Lines
 pub mod Summaries

@@ -20,6 +20,10 @@ unfoldable pub known_text : ℕ → Bool → List ℕ
 known_text number true = unknown_text number
 known_text number false = []
 
+-- why a line is left out
+unfoldable pub left_out_text : ℕ → List ℕ → List ℕ
+left_out_text number why = line_number number ++ codes ": " ++ why ++ codes "\n"
+
 -- that it isn't as a line expects
 unfoldable pub unmet_text : ℕ → List ℕ → List ℕ
 unmet_text number line = line_number number ++ codes ": it is not so: " ++ line ++ codes "\n"

@@ -1,37 +1,30 @@
 -- What stands at the end of a run (own).
 use Rattle.std.specs.Prelude.{◌≡◌, ℕ, Bool, true, false, List, [], ◌∷◌, ◌++◌}
 use Rattle.otp_trial.specs.Played.{Seated}
+use Rattle.otp_trial.specs.declared.clock.Clock.{Clock}
 use Rattle.otp_world.specs.declared.plans.Hang.{Hang}
 use Rattle.otp_world.specs.declared.plans.Plan.{Plan}
 use Rattle.otp_remarks.specs.Fit.{fit}
 use Rattle.otp_remarks.specs.Prompt.{standings_text}
 use Rattle.otp_remarks.specs.Unused.{unused_text}
-use Rattle.otp_remarks.specs.Verdict.{run_verdict}
+use Rattle.otp_remarks.specs.Verdict.{whole_verdict}
 
 -- how the supervisors stand, what they await, and what was planned and never came
 unfoldable pub stand_text : ℕ → List Seated → List Bool → List Plan → List Hang → List ℕ
 stand_text now seats running plans hanging = standings_text now seats running ++ unused_text seats plans hanging
 
+-- the same in lines of at most 80 columns, unless little is to be told
+unfoldable pub front_text : Bool → ℕ → List Seated → List Bool → List Plan → List Hang → List ℕ
+front_text true now seats running plans hanging = []
+front_text false now seats running plans hanging = fit [] (stand_text now seats running plans hanging)
+
+-- what stands at the end of a run by this clock, in which something was played or not: that, and the verdict, of which no line is cut
+unfoldable pub summary_text : Bool → Bool → Clock → ℕ → List Seated → List Bool → List Plan → List Hang → List ℕ
+summary_text is_quiet is_played by now seats running plans hanging =
+    front_text is_quiet now seats running plans hanging ++ whole_verdict is_played by seats running
+
 -- a text says so of these supervisors, of which the root has a process
-abbrev pub IsStand : List Seated → List ℕ → Type 0
-IsStand seats text =
-    (now : ℕ) × (others : List Bool) × (plans : List Plan) × (hanging : List Hang) × (text ≡ stand_text now seats (true ∷ others) plans hanging)
-
--- what is to be said at the end of a run: that, unless little is to be told, and the verdict
-unfoldable pub whole_text : Bool → ℕ → List Seated → List Bool → List Plan → List Hang → List ℕ
-whole_text true now seats running plans hanging = run_verdict seats
-whole_text false now seats running plans hanging = stand_text now seats running plans hanging ++ run_verdict seats
-
--- a text says so of these supervisors, of which the root has a process
-abbrev pub IsWhole : List Seated → List ℕ → Type 0
-IsWhole seats text =
-    (is_quiet : Bool) × (now : ℕ) × (others : List Bool) × (plans : List Plan) × (hanging : List Hang) × (text ≡ whole_text is_quiet now seats (true ∷ others) plans hanging)
-
--- what stands at the end of a run: the same in lines of at most 80 columns
-unfoldable pub summary_text : Bool → ℕ → List Seated → List Bool → List Plan → List Hang → List ℕ
-summary_text is_quiet now seats running plans hanging = fit [] (whole_text is_quiet now seats running plans hanging)
-
--- the same of a text
 abbrev pub IsSummary : List Seated → List ℕ → Type 0
 IsSummary seats text =
-    (is_quiet : Bool) × (now : ℕ) × (others : List Bool) × (plans : List Plan) × (hanging : List Hang) × (text ≡ summary_text is_quiet now seats (true ∷ others) plans hanging)
+    (is_quiet : Bool) × (is_played : Bool) × (by : Clock) × (now : ℕ) × (others : List Bool) × (plans : List Plan) × (hanging : List Hang)
+    × (text ≡ summary_text is_quiet is_played by now seats (true ∷ others) plans hanging)

@@ -26,7 +26,7 @@ fn write_until(until: Option<u64>, out: &mut Vec<u8>) -> Result<(), AllocError>
 
 /// Appends a child of the supervisor with this path, and its process.
 #[tactic(auto, unfolding(crate::specs::Awaiting::process_of_child))]
-fn write_child(
+pub(crate) fn write_child(
     path: &[u8],
     id: &Option<Name>,
     process: u64,

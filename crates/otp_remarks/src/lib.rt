@@ -3,6 +3,7 @@
 #![tactic(auto)]
 
 mod awaited;
+pub mod fate;
 mod fit;
 pub mod help;
 pub mod lines;
@@ -13,5 +14,6 @@ pub mod summary;
 pub mod unused;
 mod verdict;
 
+pub use fate::{Fate, fate_of, write_awaits};
 pub use sketch::{Sketch, moment_at};
-pub use summary::summary_of;
+pub use summary::{summary_of, write_trial_verdict};

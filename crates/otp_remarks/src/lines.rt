@@ -1,7 +1,7 @@
 //! What stands above a line of a script, or behind it.
 
 ghost use Rattle.std.specs.Prelude.{◌≡◌, ◌++◌, OnOk};
-ghost use Rattle.otp_remarks.specs.Lines.{heading_line, known_text, line_number, unknown_text, unmet_text};
+ghost use Rattle.otp_remarks.specs.Lines.{heading_line, known_text, left_out_text, line_number, unknown_text, unmet_text};
 
 use otp_telling::telling::write_after;
 use std::alloc::AllocError;
@@ -54,6 +54,17 @@ pub fn write_known(number: u64, is_unknown: bool, out: &mut Vec<u8>) -> Result<(
     } else {
         Ok(())
     }
+}
+
+/// Appends why the line with this number is left out.
+#[tactic(auto, unfolding(crate::specs::Lines::left_out_text))]
+pub fn write_left_out(number: u64, why: &[u8], out: &mut Vec<u8>) -> Result<(), AllocError>
+    ensures { OnOk result (out.new.items ≡ out.old.items ++ left_out_text number why.now) }
+{
+    write_line_number(number, out)?;
+    out.extend_from_slice(b": ")?;
+    out.extend_from_slice(why)?;
+    out.extend_from_slice(b"\n")
 }
 
 /// Appends that it isn't as the line with this number expects.

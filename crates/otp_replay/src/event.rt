@@ -54,14 +54,14 @@ fn are_ids(word: &[u8]) -> bool
 
 /// Whether a word is a child, as pool/worker.
 #[tactic(auto, unfolding(crate::specs::Events::is_child))]
-fn is_child(word: &[u8]) -> bool
+pub(crate) fn is_child(word: &[u8]) -> bool
     ensures { result ≡ is_child word.now }
 {
     are_ids(word)
 }
 
 /// Whether two texts are the same.
-fn is_text(one: &[u8], other: &[u8]) -> bool
+pub(crate) fn is_text(one: &[u8], other: &[u8]) -> bool
     ensures { result ≡ bytes_eq one.now other.now }
 {
     one == other

@@ -6,12 +6,14 @@
 
 mod entry;
 mod event;
+mod near;
 mod played;
 mod reading;
 mod stamp;
 mod words;
 
 pub use entry::LONGEST_ENTRY;
+pub use near::Miss;
 pub use played::{ReplayEnd, Replaying, replay};
-pub use reading::{Counts, LogFault, Reading, read_log};
+pub use reading::{Counts, LogFault, MOST_NEAR, NearLine, Reading, read_log};
 pub use stamp::{MOST_SECONDS, Stamp};

@@ -1,12 +1,13 @@
 //! A log that is read: the script that it stands for.
 
-ghost use Rattle.std.specs.Prelude.{◌≡◌, ◌+◌, ◌-◌, ◌<◌, ◌++◌, ◌==◌, Ok, Err, IfOk, IfSome, OnOk, drop, length, map, position};
+ghost use Rattle.std.specs.Prelude.{◌≡◌, ◌+◌, ◌-◌, ◌<◌, ◌++◌, ◌==◌, Ok, Err, IfOk, IfSome, OnOk, drop, length, map, position, take};
 ghost use Rattle.otp_sim.specs.Sim.{lines_of};
-ghost use Rattle.otp_replay.specs.Logs.{entry_in, entry_taken, event_taken, line_taken, lines_taken, log_in, no_log, other_text, outcome, shown, step_text, when_of, with_event, with_other, with_silent, word_if};
+ghost use Rattle.otp_replay.specs.Logs.{entry_in, entry_taken, event_taken, kept_near, line_taken, lines_taken, log_in, no_log, other_text, outcome, second_text, shown, stamp_text, step_text, when_of, with_event, with_near, with_other, with_silent, word_if, words_text, zero_or};
 
 use crate::entry::{Entry, read_entry};
+use crate::near::Miss;
 use crate::stamp::Stamp;
-use crate::words::{behind, is_space};
+use crate::words::{behind, is_space, rest_of, strip, word_of};
 use otp_text::write_number;
 use std::alloc::{AllocError, Global};
 use std::marker::Model;
@@ -20,6 +21,16 @@ pub enum LogFault {
     OtherClock(u64),
 }
 
+/// So many lines of a log are kept that look as if they could be played, and aren't.
+pub const MOST_NEAR: usize = 20;
+
+/// The number of a line that looks as if it could be played, counted from 1, and why it isn't.
+#[derive(Clone, Copy, Debug, PartialEq, Eq)]
+pub struct NearLine {
+    pub number: u64,
+    pub miss: Miss,
+}
+
 /// What is counted of a log.
 #[derive(Clone, Copy, Debug, PartialEq, Eq)]
 pub struct Counts {
@@ -29,6 +40,8 @@ pub struct Counts {
     pub played: u64,
     /// Those with words that aren't.
     pub missed: u64,
+    /// Those of them that look as if they could be.
+    pub near: u64,
     /// The timestamp of the first line that is played.
     pub first: Option<Stamp>,
     /// The time of the last one.
@@ -119,16 +132,59 @@ fn write_word(is_up: bool, out: &mut Vec<u8>) -> Result<(), AllocError>
     }
 }
 
-/// Appends a line of a script.
+/// Appends a word behind a space, if there is one.
+#[tactic(auto, unfolding(crate::specs::Logs::second_text))]
+fn write_second(word: &[u8], out: &mut Vec<u8>) -> Result<(), AllocError>
+    ensures { OnOk result (out.new.items ≡ out.old.items ++ second_text word.now) }
+{
+    match word {
+        [] => Ok(()),
+        word => {
+            out.extend_from_slice(b" ")?;
+            out.extend_from_slice(word)
+        }
+    }
+}
+
+/// Appends the timestamp at the end of which this stands, as it was written.
+#[tactic(auto, unfolding(crate::specs::Logs::stamp_text))]
+fn write_stamp(front: &[u8], out: &mut Vec<u8>) -> Result<(), AllocError>
+    ensures { OnOk result (out.new.items ≡ out.old.items ++ stamp_text front.now) }
+{
+    let stamp = strip(front);
+    out.extend_from_slice(word_of(stamp))?;
+    write_second(word_of(strip(rest_of(stamp))), out)
+}
+
+/// Appends what happened: three words at the most, with a space between them.
+#[tactic(auto, unfolding(crate::specs::Logs::words_text))]
+fn write_words(words: &[u8], out: &mut Vec<u8>) -> Result<(), AllocError>
+    ensures { OnOk result (out.new.items ≡ out.old.items ++ words_text words.now) }
+{
+    let second = strip(rest_of(words));
+    out.extend_from_slice(word_of(words))?;
+    write_second(word_of(second), out)?;
+    write_second(word_of(strip(rest_of(second))), out)
+}
+
+/// Appends a line of a script: the words of a line of the log, and as a comment the timestamp before them.
 #[tactic(auto, unfolding(crate::specs::Logs::step_text))]
-fn write_step(time: u64, is_up: bool, words: &[u8], out: &mut Vec<u8>) -> Result<(), AllocError>
-    ensures { OnOk result (out.new.items ≡ out.old.items ++ step_text time is_up words.now) }
+fn write_step(
+    time: u64,
+    is_up: bool,
+    words: &[u8],
+    front: &[u8],
+    out: &mut Vec<u8>,
+) -> Result<(), AllocError>
+    ensures { OnOk result (out.new.items ≡ out.old.items ++ step_text time is_up words.now front.now) }
 {
     out.extend_from_slice(b"at ")?;
     write_number(time, out)?;
     out.extend_from_slice(b" ms ")?;
     write_word(is_up, out)?;
-    out.extend_from_slice(words)?;
+    write_words(words, out)?;
+    out.extend_from_slice(b" # ")?;
+    write_stamp(front, out)?;
     out.extend_from_slice(b"\n")
 }
 
@@ -139,12 +195,47 @@ fn words_from(line: &[u8], place: usize) -> &[u8]
     &line[place.min(line.len())..]
 }
 
+/// The line up to a place.
+fn words_to(line: &[u8], place: usize) -> &[u8]
+    ensures { result.now ≡ take place line.now }
+{
+    &line[..place.min(line.len())]
+}
+
+/// Keeps a line that looks as if it could be played, while there are few.
+#[tactic(auto, unfolding(crate::specs::Logs::kept_near))]
+fn keep_near(number: u64, miss: Miss, near: &mut Vec<NearLine>) -> Result<(), AllocError>
+    ensures { OnOk result (near.new.items ≡ kept_near number miss near.old.items) }
+{
+    if near.len() < MOST_NEAR {
+        near.push(NearLine { number, miss }).map_err(|_| AllocError)
+    } else {
+        Ok(())
+    }
+}
+
+/// The timestamp of the first line that is played, of which this one was before.
+#[tactic(auto, unfolding(crate::specs::Logs::zero_or))]
+fn keep_zero(first: Option<Stamp>, front: &[u8], zero: &mut Vec<u8>) -> Result<(), AllocError>
+    ensures { OnOk result (zero.new.items ≡ zero_or first front.now zero.old.items) }
+{
+    match first {
+        Some(_) => Ok(()),
+        None => {
+            zero.clear();
+            write_stamp(front, zero)
+        }
+    }
+}
+
 /// A log, as far as it was read.
 #[derive(Drop)]
 pub struct Reading {
     counts: Counts,
     script: Vec<u8>,
     others: Vec<u8>,
+    near: Vec<NearLine>,
+    zero: Vec<u8>,
     /// A place for a text.
     word: Vec<u8>,
 }
@@ -154,7 +245,7 @@ impl Model for Reading {
 
     ghost Value = { Log };
 
-    ghost view = { λ a. record { counts = a.counts; script = a.script.items; others = a.others.items } };
+    ghost view = { λ a. record { counts = a.counts; script = a.script.items; others = a.others.items; near = a.near.items; zero = a.zero.items } };
 }
 
 impl Reading {
@@ -167,11 +258,14 @@ impl Reading {
                 lines: 0,
                 played: 0,
                 missed: 0,
+                near: 0,
                 first: None,
                 last: 0,
             },
             script: Vec::new(alloc),
             others: Vec::new(alloc),
+            near: Vec::new(alloc),
+            zero: Vec::new(alloc),
             word: Vec::new(alloc),
         }
     }
@@ -197,6 +291,20 @@ impl Reading {
         self.others.as_slice()
     }
 
+    /// The first lines that look as if they could be played, and aren't.
+    pub fn near(&self) -> &[NearLine]
+        ensures { result.now ≡ self.now.near }
+    {
+        self.near.as_slice()
+    }
+
+    /// The timestamp of the first line that is played; nothing where none is.
+    pub fn zero(&self) -> &[u8]
+        ensures { result.now ≡ self.now.zero }
+    {
+        self.zero.as_slice()
+    }
+
     /// A line with no word.
     #[tactic(auto, unfolding(crate::specs::Logs::with_silent))]
     fn take_silent(&mut self) -> Result<(), AllocError>
@@ -217,7 +325,24 @@ impl Reading {
         write_other(self.counts.lines, line, &mut self.others)
     }
 
-    /// A line that is played so long after the first one.
+    /// The line that was read last looks as if it could be played.
+    #[tactic(auto, unfolding(crate::specs::Logs::with_near))]
+    fn take_near(&mut self, miss: Miss) -> Result<(), AllocError>
+        ensures { OnOk result (self.new ≡ with_near miss self.old) }
+    {
+        self.counts.near = next(self.counts.near)?;
+        keep_near(self.counts.lines, miss, &mut self.near)
+    }
+
+    /// A line that isn't played, and looks as if it could be.
+    fn take_other_near(&mut self, miss: Miss, line: &[u8]) -> Result<(), AllocError>
+        ensures { OnOk result (self.new ≡ with_near miss (with_other line.now self.old)) }
+    {
+        self.take_other(line)?;
+        self.take_near(miss)
+    }
+
+    /// A line that is played so long after the first one, and in which this stands before the words.
     #[tactic(auto, unfolding(crate::specs::Logs::with_event, crate::specs::Logs::first_or))]
     fn take_event(
         &mut self,
@@ -225,14 +350,16 @@ impl Reading {
         time: u64,
         is_up: bool,
         words: &[u8],
+        front: &[u8],
     ) -> Result<(), AllocError>
-        ensures { OnOk result (self.new ≡ with_event stamp time is_up words.now self.old) }
+        ensures { OnOk result (self.new ≡ with_event stamp time is_up words.now front.now self.old) }
     {
+        keep_zero(self.counts.first, front, &mut self.zero)?;
         self.counts.lines = next(self.counts.lines)?;
         self.counts.played = next(self.counts.played)?;
         self.counts.first = Some(self.counts.first.unwrap_or(stamp));
         self.counts.last = stamp.time();
-        write_step(time, is_up, words, &mut self.script)
+        write_step(time, is_up, words, front, &mut self.script)
     }
 
     /// A line that says what happened then.
@@ -243,12 +370,13 @@ impl Reading {
         stamp: Stamp,
         is_up: bool,
         words: &[u8],
+        front: &[u8],
     ) -> Result<Option<LogFault>, AllocError>
-        ensures { IfOk result (λ fault. event_taken timed stamp is_up words.now self.old ≡ outcome fault self.new) }
+        ensures { IfOk result (λ fault. event_taken timed stamp is_up words.now front.now self.old ≡ outcome fault self.new) }
     {
         match timed {
             Timed::After(time) => {
-                self.take_event(stamp, time, is_up, words)?;
+                self.take_event(stamp, time, is_up, words, front)?;
                 Ok(None)
             }
             Timed::Earlier => Ok(Some(LogFault::GoesBack(next(self.counts.lines)?))),
@@ -270,9 +398,14 @@ impl Reading {
                 self.take_other(line)?;
                 Ok(None)
             }
+            Entry::Near(miss) => {
+                self.take_other_near(miss, line)?;
+                Ok(None)
+            }
             Entry::Event(stamp, is_up, place) => {
                 let timed = when_of(self.counts.first, self.counts.last, stamp);
-                self.take_timed(timed, stamp, is_up, words_from(line, place))
+                let front = words_to(line, place);
+                self.take_timed(timed, stamp, is_up, words_from(line, place), front)
             }
         }
     }

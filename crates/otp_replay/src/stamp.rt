@@ -149,7 +149,7 @@ fn read_instant(text: &[u8]) -> Option<u64>
     }
 }
 
-/// The same, by UTC where there is no offset. The word is a place for a text.
+/// The milliseconds since 1970 of a date and a time of day, by UTC where there is no offset. The word is a place for a text.
 fn read_zoned(text: &[u8], word: &mut Vec<u8>) -> Result<Option<u64>, AllocError>
     ensures { IfOk result (λ time. time ≡ zoned_in text.now) }
 {

@@ -75,7 +75,7 @@ pub(crate) fn word_of(line: &[u8]) -> &[u8]
     before(first_space(line), line)
 }
 
-/// What stands behind that.
+/// What stands behind the word at the beginning of the line.
 #[tactic(auto, unfolding(crate::specs::Words::rest_of))]
 pub(crate) fn rest_of(line: &[u8]) -> &[u8]
     ensures rest { result.now ≡ rest_of line.now }
@@ -84,7 +84,7 @@ pub(crate) fn rest_of(line: &[u8]) -> &[u8]
     from(first_space(line), line)
 }
 
-/// Whether nothing stands there.
+/// Whether a text has no bytes.
 pub(crate) fn is_empty(text: &[u8]) -> bool
     ensures { result ≡ is_empty text.now }
 {

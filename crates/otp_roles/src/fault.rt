@@ -102,7 +102,7 @@ fn misfit_in(nested: &[usize], specs: &[ChildSpec]) -> bool
     false
 }
 
-/// Whether a table has one, which is no fault under simple_one_for_one.
+/// Whether a child of a table has a job in the place of a supervisor, which is no fault under simple_one_for_one.
 fn has_misfit(table: &FlatTable) -> bool
     ensures { result ≡ has_misfit (table_seen table.now) }
 {
@@ -110,7 +110,7 @@ fn has_misfit(table: &FlatTable) -> bool
         && misfit_in(table.nested.as_slice(), table.supervisor.specs())
 }
 
-/// Whether one of these tables has one.
+/// Whether a child of one of these tables has a job in the place of a supervisor.
 fn any_misfit(tables: &[FlatTable]) -> bool
     ensures { result ≡ list_any has_misfit (map table_seen tables.now) }
 {

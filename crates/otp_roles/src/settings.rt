@@ -54,7 +54,7 @@ impl Settings {
         })
     }
 
-    /// The same hands and turns, and counts where they are wanted.
+    /// These settings, with counts where they are wanted.
     pub fn with_counts(self, are_wanted: bool) -> Settings
         ensures { result ≡ record self { counted = are_wanted } }
     {

@@ -234,7 +234,8 @@ there t xs d h =
           omega (arith, one, less)
     ]) refl h
 
-no_row : (test : Row → Bool) (rows : List Row) (i : ℕ) → position test rows ≡ Some i → slice_get rows i ≡ None → ⊥
+-- nor does the place of what is found lie beyond the rows
+pub no_row : (test : Row → Bool) (rows : List Row) (i : ℕ) → position test rows ≡ Some i → slice_get rows i ≡ None → ⊥
 no_row test [] i e n = let no : ◌≡◌ {A = Option ℕ} None (Some i) = e in cc
 no_row test (row ∷ rows) i e n =
     let in_it : i < length (row ∷ rows) = (position-Some test (row ∷ rows) i row e).0 in

@@ -129,7 +129,7 @@ restart_list-ids from to place k rows le more =
     ∙ ap ids_back (sym split)
 
 -- a slice of one
-one_slice : (rows : List Row) (place : ℕ) (row : Row) → slice_get rows place ≡ Some row → slice_range rows place (place + 1) ≡ row ∷ []
+pub one_slice : (rows : List Row) (place : ℕ) (row : Row) → slice_get rows place ≡ Some row → slice_range rows place (place + 1) ≡ row ∷ []
 one_slice [] place row at = let none : ◌≡◌ {A = Option Row} None (Some row) = at in cc
 one_slice (x ∷ rows) zero row at = let same : x ≡ row = (let e : ◌≡◌ {A = Option Row} (Some x) (Some row) = at in cc) in ap (λ (r : Row). r ∷ []) same
 one_slice (x ∷ rows) (suc i) row at =

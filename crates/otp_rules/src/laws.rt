@@ -57,29 +57,29 @@ pub fn restart_rate()
     ensures from_empty { RestartRateFromEmpty }
 {}
 
-/// A supervisor that was never opened is fit to be a base, and each lawful history leads from a fit state to a fit one:
-/// among other things each process is the child's in one row at most, no number is given twice, and what is still to stop
+/// A supervisor that was never opened is fit to be a base, and each lawful history leads from a fit state to a fit one.
+/// Among other things each process is the child's in one row at most, no number is given twice, and what is still to stop
 /// and to start is there.
 pub fn stays_fit()
     ensures { StaysFit }
 {}
 
 /// In a lawful history a child is started only in its turn, from each state that is fit. The children to start are those
-/// that the work is about, as they stood when it was opened, in start order: all at the opening, the one that a call names
-/// or asks for, and for a restart those that the restart affects of the child that died, or whose restart is tried again,
-/// and that aren't temporary. Each of them that comes before the child was started since,
-/// in that order, and has answered after that start with Up or Ignored; and each process of a child that the work is
-/// about has ended (Supervisor Behaviour, Starting a Supervisor and Restart Strategy).
+/// that the work is about, as they stood when it was opened, in start order. They are all at the opening, and the one that a
+/// call names or asks for. For a restart they are those that aren't temporary and that the restart of the child affects
+/// which died, or whose restart is tried again. Each of them that comes before the child was started since, in that order,
+/// and has answered after that start with Up or Ignored. Each process of a child that the work is about has ended
+/// (Supervisor Behaviour, Starting a Supervisor and Restart Strategy).
 pub fn start_order()
     ensures from_any { StartOrder }
     ensures from_empty { StartOrderFromEmpty }
 {}
 
-/// A child is told to stop only in its turn, from each state whose open work is in step with what was seen of it: no
-/// answer of a child is awaited, the work is about it (of a call: it has the process that the call names, or that of
-/// the child which it names), and of the children that the work is about each that had a process and stands after it in
-/// start order has ended (Supervisor Behaviour, Stopping and Restart Strategy). Two things are no such order: a kill of
-/// a child that was asked and whose deadline has come, which only an event that ticks gives; and the end of a
+/// A child is told to stop only in its turn, from each state whose open work is in step with what was seen of it. Then no
+/// answer of a child is awaited, and the work is about this one (of a call: it has the process that the call names, or that
+/// of the child which it names). Of the children that the work is about, each that had a process and stands after it in
+/// start order has ended (Supervisor Behaviour, Stopping and Restart Strategy). Two things are no such order. One is a kill
+/// of a child that was asked and whose deadline has come, which only an event that ticks gives. The other is the end of a
 /// simple_one_for_one supervisor, whose children are told together by the event that ends it.
 pub fn stop_order()
     ensures from_any { StopOrder }
@@ -88,21 +88,24 @@ pub fn stop_order()
 
 /// Where an event opens work, its lists are those of the children which what the event takes names: an item of the inbox,
 /// or the first that waited. To be stopped are the processes of these children, in reverse start order, and to be started
-/// are all that such work starts. A restart is of the children that the restart of one affects, by the strategy: the first
-/// that had the process of whose end a note was taken, where its restart type asks for a restart after such an end; or the
-/// first that waited for its next restart under the number that came up. restart_child starts the first child with the id
-/// that the call names, which has no process; terminate_child stops the process of the first with that id or, under
-/// simple_one_for_one, the one that the call names; start_child starts the child that it asks for, which is added last.
+/// are all that such work starts.
+///
+/// A restart is of the children that the restart of one affects, by the strategy. That one is the first that had the process
+/// of whose end a note was taken, where its restart type asks for a restart after such an end; or the first that waited for
+/// its next restart under the number that came up. restart_child starts the first child with the id that the call names,
+/// which has no process. terminate_child stops the process of the first with that id or, under simple_one_for_one, the one
+/// that the call names. start_child starts the child that it asks for, which is added last.
+///
 /// So it is from each state whose open work is sound. The children are those of which `start_order` and `stop_order` speak.
 pub fn work_is_for_what_was_taken()
     ensures from_any { WorkIsForTaken }
     ensures from_empty { WorkIsForTakenFromEmpty }
 {}
 
-/// Where an event ends the supervisor, so does what the event takes: by the intensity only what makes a restart due; by
-/// significance only the note that the process of a significant child ended by itself, which isn't restarted after such an
-/// end, and under all_significant only that of the last such child (Supervisor Behaviour, Automatic Shutdown); else the
-/// parent asked, or a start of the opening failed.
+/// Where an event ends the supervisor, so does what the event takes. By the intensity only what makes a restart due ends it.
+/// By significance only the note does that the process of a significant child ended by itself, which isn't restarted after
+/// such an end, and under all_significant only that of the last such child (Supervisor Behaviour, Automatic Shutdown). Else
+/// the parent asked, or a start of the opening failed.
 pub fn end_is_for_what_was_taken()
     ensures from_any { EndIsForTaken }
     ensures from_empty { EndIsForTakenFromEmpty }
@@ -169,8 +172,8 @@ pub fn orders_name_rows()
     ensures from_any { OrdersNameRowsFrom }
 {}
 
-/// A child whose process has ended is at home only because the note of that end was taken: each child that is at home
-/// after an event, or that the event starts, was at home before it, or comes home by the note that the event takes, or is new.
+/// A child whose process has ended is at home only because the note of that end was taken. Each child that is at home after
+/// an event, or that the event starts, was at home before it, or comes home by the note that the event takes, or is new.
 pub fn homes_are_kept()
     ensures from_empty { HomesKept }
     ensures from_any { HomesKeptFrom }
@@ -199,9 +202,9 @@ pub fn start_calls_wait()
 {}
 
 /// A run may be cut at any place: from there on it has the same state, but for answers, ends and restarts too old to count, and
-/// gives the same orders, though of what came before nothing is kept but the state without its answers and ends, and with no
-/// more restarts than one more than the intensity. The same is said of one event, of a run from any state with all its
-/// restarts, and of whether an event needs a number.
+/// gives the same orders. Of what came before only the state is kept, without its answers and ends, and with no more restarts
+/// than one more than the intensity. The same is said of one event, of a run from any state with all its restarts, and of
+/// whether an event needs a number.
 pub fn cuts_agree()
     ensures anywhere { CutAnywhere }
     ensures short { ShortCutsAgree }

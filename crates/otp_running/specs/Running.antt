@@ -1,5 +1,5 @@
 -- What a run of a tree writes (own).
-use Rattle.std.specs.Prelude.{◌≡◌, ◌⊎◌, ◌<◌, ℕ, Bool, true, false, List, Option, None, Ok, [], length}
+use Rattle.std.specs.Prelude.{◌≡◌, ◌⊎◌, ◌<◌, ℕ, Bool, true, false, List, Option, Some, None, Ok, [], length}
 use Rattle.std.specs.Io.KnownBytes.{Appends}
 use Rattle.otp_file.specs.Files.{Says}
 use Rattle.otp_file.specs.Trees.{Table, Tree, tables_of}
@@ -19,12 +19,14 @@ use Rattle.otp_serve.specs.declared.patient.PatientJob.{PatientJob}
 use Rattle.otp_close.specs.Closes.{HaveBegun, IsReportOf}
 use Rattle.otp_report.specs.declared.report.Report.{Report}
 use Rattle.otp_report.specs.declared.report.TableReport.{TableReport}
+use Rattle.otp_live.specs.declared.span.Span.{Span}
 use Rattle.otp_tree.specs.declared.whole.CountedRun.{CountedRun}
 use Rattle.otp_roles.specs.declared.fault.PlanFault.TheVariants as plan
 use Rattle.otp_check.specs.Checks.{IsFirstFault}
 use Rattle.otp_console.specs.Trees.{TreeRuns}
 use Rattle.otp_ending.specs.Devices.{HasTree}
 use Rattle.otp_ending.specs.Told.{IsUnreadEnd}
+use Rattle.otp_words.specs.declared.words.Serving.{Serving}
 use Rattle.otp_ending.specs.declared.ending.ProgramEnd.{ProgramEnd}
 use Rattle.otp_ending.specs.declared.ending.ProgramEnd.TheVariants.{Done, TreeRefused, UnknownStart, WrongBody, CloseMismatch, CloseMissing, NotFinished, OutputFailed, OutOfMemory}
 
@@ -60,6 +62,10 @@ abbrev pub IsTreeRun : Bool → List ℕ → Bool → ProgramEnd → List ℕ �
 IsTreeRun is_json name counted Done file old new = HasRun (λ live. live ≡ 0) is_json name counted file old new
 IsTreeRun is_json name counted NotFinished file old new = HasRun (λ live. ¬ (live ≡ 0)) is_json name counted file old new
 IsTreeRun is_json name counted ending file old new = IsNotRun ending file old new
+
+-- how long a tree is served, and how long its stop may take, where that was asked for
+abbrev pub span_of : Serving → Span
+span_of serving = record { stop = Some serving.time; grace = serving.grace }
 
 -- the report of a tree of the supervisors with these tables that was served for a time, or the object of it
 abbrev pub HasServedReport : Bool → List ℕ → List ℕ → List Table → Report PatientJob Calm → Option (List ℕ) → Option (List ℕ) → Type 0

@@ -75,10 +75,11 @@ where
         Ok(words) => words,
         Err(fault) => return answer(pool.alloc, fault, output, errors),
     };
-    match read_words(pool.alloc, words) {
-        Ok(command) => do_command_with(pool, command, files, input, output, errors),
-        Err(fault) => answer(pool.alloc, &fault, output, errors),
-    }
+    let command = match read_words(pool.alloc, words) {
+        Ok(command) => command,
+        Err(fault) => return answer(pool.alloc, &fault, output, errors),
+    };
+    do_command_with(pool, command, files, input, output, errors)
 }
 
 /// Does what a command asks for.
@@ -150,10 +151,11 @@ where
     ensures first { TellsFirst (how.shows.is_drawn || how.shows.is_why) result (E.seen errors.old) (E.seen errors.new) }
     ensures kept { (E.seen errors.old).failures ≤ (E.seen errors.new).failures }
 {
-    match read_run_file(files, name, errors) {
-        Ok(file) => run_file(pool, name, &file, how, output, errors),
-        Err(ending) => ending,
-    }
+    let file = match read_run_file(files, name, errors) {
+        Ok(file) => file,
+        Err(ending) => return ending,
+    };
+    run_file(pool, name, &file, how, output, errors)
 }
 
 /// Serves the tree of a file for a time.
@@ -176,8 +178,9 @@ where
     ensures first { TellsFirst (how.shows.is_drawn || how.shows.is_why) result (E.seen errors.old) (E.seen errors.new) }
     ensures kept { (E.seen errors.old).failures ≤ (E.seen errors.new).failures }
 {
-    match read_run_file(files, name, errors) {
-        Ok(file) => serve_file(pool, name, &file, how, output, errors),
-        Err(ending) => ending,
-    }
+    let file = match read_run_file(files, name, errors) {
+        Ok(file) => file,
+        Err(ending) => return ending,
+    };
+    serve_file(pool, name, &file, how, output, errors)
 }

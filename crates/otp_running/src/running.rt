@@ -158,13 +158,9 @@ pub(crate) fn refuse_run<'a, E: Output>(
     ensures kept { (E.seen errors.old).failures ≤ (E.seen errors.new).failures }
 {
     match fault {
-        FileRunFault::UnknownStart(start) => {
+        FileRunFault::UnknownStart(_) | FileRunFault::WrongBody => {
             tell_unfit(alloc, errors, name, file);
-            ProgramEnd::UnknownStart(start)
-        }
-        FileRunFault::WrongBody => {
-            tell_unfit(alloc, errors, name, file);
-            ProgramEnd::WrongBody
+            end_of_run(fault)
         }
         _ => end_of_run(fault),
     }

@@ -7,7 +7,7 @@ ghost use Rattle.otp_file.specs.Trees.{tables_of};
 ghost use Rattle.otp_roles.specs.Faults.{plan_fault};
 ghost use Rattle.otp_jobs.specs.Plans.{supervisors_of};
 ghost use Rattle.otp_jobs.specs.Runs.{IsOfRun, IsTooManyOnly, run_fault};
-ghost use Rattle.otp_running.specs.Running.{IsTreeServed};
+ghost use Rattle.otp_running.specs.Running.{IsTreeServed, span_of};
 ghost use Rattle.otp_serve.specs.Serves.{served_text};
 ghost use Rattle.otp_close.specs.Closes.{HaveBegun, IsReportOf};
 
@@ -37,7 +37,9 @@ pub struct ServeAs {
 }
 
 /// How long a tree is served that is to be served so.
-fn span_of(serving: Serving) -> Span {
+fn span_of(serving: Serving) -> Span
+    ensures { result ≡ span_of serving }
+{
     Span {
         stop: Some(serving.time),
         grace: serving.grace,

@@ -32,19 +32,19 @@ meant_text word.Reset = codes "unknown word: did you mean reset?"
 
 -- what would be read in the place of what stands there
 unfoldable pub fault_text : ScriptFault → List ℕ
-fault_text fault.UnknownWord = codes "unknown word; help at the prompt lists the words, as does docs/FORMATS.md"
+fault_text fault.UnknownWord = codes "unknown word; otp help script lists the words, and help does at the prompt"
 fault_text (fault.Misspelt word) = meant_text word
 fault_text fault.BadTime = codes "not a time: write one like 10s, 1.5s, 500ms, 2m, 1h, or 500 (milliseconds)"
 fault_text fault.LargeTime = codes "too large a time: write at most 1000000000000s"
 fault_text fault.BadTimes = codes "behind every TIME stands how often, 1 to 10000: every 2s 20 times crash ID"
 fault_text fault.MissingChild = codes "a child is missing: write its id, or a process number like #3"
-fault_text fault.BadChild = codes "not a child: write its id, or a process number like #3"
+fault_text fault.BadChild = codes "not a child: write its id, or a process number like #3, and a space behind it"
 fault_text fault.MissingName = codes "a child's id is missing: write 1 to 32 bytes of a-z A-Z 0-9 _ - ."
 fault_text fault.BadName = codes "not a child's id: write 1 to 32 bytes of a-z A-Z 0-9 _ - ."
 fault_text fault.MissingReason = codes "a reason is missing: write one like normal, shutdown, kill or error:TEXT"
 fault_text fault.BadReason = codes "not a reason: write normal, shutdown, shutdown:TEXT, kill, killed, noproc or error:TEXT"
 fault_text fault.LongReason = codes "too long a reason: behind error: or shutdown: stand 1 to 64 bytes"
-fault_text fault.BadExpected = codes "not expected so: write expect up ID, expect end ID or expect restarts ID N"
-fault_text fault.BadCall = codes "this call has other words behind it: docs/FORMATS.md"
+fault_text fault.BadExpected = codes "not expected so: write expect up, expect end, both also with ID, or expect restarts ID N"
+fault_text fault.BadCall = codes "other words stand behind this call; otp help script shows its form"
 fault_text fault.TooManyWords = codes "more words than the line may have; a comment begins with # after a blank"
 fault_text fault.TooLong = codes "more than 512 bytes"

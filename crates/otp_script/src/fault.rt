@@ -77,7 +77,7 @@ impl ScriptFault {
     {
         match self {
             ScriptFault::UnknownWord =>
-                "unknown word; help at the prompt lists the words, as does docs/FORMATS.md",
+                "unknown word; otp help script lists the words, and help does at the prompt",
             ScriptFault::Misspelt(word) => word.question(),
             ScriptFault::BadTime =>
                 "not a time: write one like 10s, 1.5s, 500ms, 2m, 1h, or 500 (milliseconds)",
@@ -86,7 +86,8 @@ impl ScriptFault {
                 "behind every TIME stands how often, 1 to 10000: every 2s 20 times crash ID",
             ScriptFault::MissingChild =>
                 "a child is missing: write its id, or a process number like #3",
-            ScriptFault::BadChild => "not a child: write its id, or a process number like #3",
+            ScriptFault::BadChild =>
+                "not a child: write its id, or a process number like #3, and a space behind it",
             ScriptFault::MissingName =>
                 "a child's id is missing: write 1 to 32 bytes of a-z A-Z 0-9 _ - .",
             ScriptFault::BadName => "not a child's id: write 1 to 32 bytes of a-z A-Z 0-9 _ - .",
@@ -97,8 +98,9 @@ impl ScriptFault {
             ScriptFault::LongReason =>
                 "too long a reason: behind error: or shutdown: stand 1 to 64 bytes",
             ScriptFault::BadExpected =>
-                "not expected so: write expect up ID, expect end ID or expect restarts ID N",
-            ScriptFault::BadCall => "this call has other words behind it: docs/FORMATS.md",
+                "not expected so: write expect up, expect end, both also with ID, or expect restarts ID N",
+            ScriptFault::BadCall =>
+                "other words stand behind this call; otp help script shows its form",
             ScriptFault::TooManyWords =>
                 "more words than the line may have; a comment begins with # after a blank",
             ScriptFault::TooLong => "more than 512 bytes",

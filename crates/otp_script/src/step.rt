@@ -62,7 +62,7 @@ pub enum Action {
     Stop,
     /// Somebody calls the supervisor.
     Call(Call),
-    /// It is compared how a child or a supervisor stands.
+    /// How a child or a supervisor stands is compared with what is expected.
     Expect(Expected),
 }
 

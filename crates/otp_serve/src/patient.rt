@@ -45,7 +45,7 @@ impl Job for PatientJob {
     }
 }
 
-/// The same body, whose job waits.
+/// This body, whose job waits where it would work on.
 pub(crate) fn patient_body(body: WorkedBody) -> Body<PatientJob, Calm>
     ensures { result ≡ patient_body body }
 {

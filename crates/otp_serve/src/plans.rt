@@ -11,7 +11,7 @@ use std::alloc::{AllocError, Global};
 /// One supervisor of a tree whose jobs wait.
 pub type PatientPlan = TablePlan<PatientJob, Calm>;
 
-/// The same bodies, whose jobs wait.
+/// These bodies, whose jobs wait.
 fn patient_bodies(
     alloc: Global,
     bodies: Vec<WorkedBody>,
@@ -25,7 +25,7 @@ fn patient_bodies(
     Ok(all)
 }
 
-/// The same supervisor, whose jobs wait.
+/// This supervisor, whose jobs wait.
 fn patient_plan(alloc: Global, plan: WorkedPlan) -> Result<PatientPlan, AllocError>
     ensures { IfOk result (λ patient. patient_seen patient ≡ patient_of plan) }
 {
@@ -34,7 +34,7 @@ fn patient_plan(alloc: Global, plan: WorkedPlan) -> Result<PatientPlan, AllocErr
     Ok(TablePlan { supervisor, bodies })
 }
 
-/// The same supervisors, whose jobs wait.
+/// These supervisors, whose jobs wait.
 ///
 /// # Errors
 ///

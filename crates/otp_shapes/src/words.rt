@@ -123,7 +123,7 @@ pub fn reason_number(reason: &Reason) -> u32
     }
 }
 
-/// Its text, if it has one.
+/// The text of a reason, if it has one.
 pub fn reason_text(reason: &Reason) -> CText
     ensures { ShowsReasonText reason.now result }
 {
@@ -210,7 +210,7 @@ pub fn shutdown_number(shutdown: Shutdown) -> u32
     }
 }
 
-/// The milliseconds that it has; 0 where it has no such time.
+/// The milliseconds that a child has to stop; 0 where it has no such time.
 pub fn shutdown_ms(shutdown: Shutdown) -> u32
     ensures { result ≡ shutdown_time shutdown }
 {

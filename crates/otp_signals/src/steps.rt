@@ -113,7 +113,7 @@ impl Join<View> for Lend {
     ghost spent = { blank_view };
 }
 
-/// It gives it back.
+/// An owner gives back what a viewer saw.
 pub struct GiveBack;
 
 impl Split<View> for GiveBack {

@@ -1,2 +1,3 @@
 pub mod FaultLemmas
 pub mod SupervisorLemmas
+pub mod Unseen

@@ -4,3 +4,4 @@ pub mod Children
 pub mod Faults
 pub mod Lawful
 pub mod Supervisor
+pub mod Marks

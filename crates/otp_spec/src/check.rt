@@ -1,4 +1,4 @@
-ghost use Rattle.std.specs.Prelude.{◌≡◌, take};
+ghost use Rattle.std.specs.Prelude.{◌≡◌, false, take};
 ghost use Rattle.std.specs.List.{list_any};
 ghost use Rattle.otp_spec.specs.Faults.{answer_of};
 ghost use Rattle.otp_spec.specs.Lawful.{is_never, has_id_of, faults_at, first_of, first_fault};
@@ -6,6 +6,7 @@ ghost use Rattle.otp_spec.specs.Lawful.{is_never, has_id_of, faults_at, first_of
 use crate::child::ChildSpec;
 use crate::fault::{SpecFault, SpecKey};
 use crate::flags::AutoShutdown;
+use crate::marks::{MARKS, mark_of};
 
 /// Tests a list of specifications, for a supervisor with this automatic shutdown where one is given
 /// (`supervisor:check_childspecs/2`).
@@ -22,21 +23,54 @@ pub fn check_childspecs(
 ) -> Result<(), SpecFault>
     ensures { result ≡ answer_of (first_fault specs.now auto_shutdown) }
 {
+    if specs.len() < MANY {
+        check_few(specs, auto_shutdown)
+    } else {
+        check_many(specs, auto_shutdown)
+    }
+}
+
+/// So many ids are told apart by marks; fewer are compared sooner than the marks are made.
+const MANY: usize = 8;
+
+/// Tests the list as [`check_childspecs`] does; each id is compared with all before it.
+fn check_few(specs: &[ChildSpec], auto_shutdown: Option<AutoShutdown>) -> Result<(), SpecFault>
+    ensures { result ≡ answer_of (first_fault specs.now auto_shutdown) }
+{
     for (index, spec) in specs.iter().enumerate() {
-        if let Some(fault) = fault_at(auto_shutdown, index, &specs[..index], spec) {
+        if let Some(fault) = fault_at(auto_shutdown, index, &specs[..index], true, spec) {
             return Err(fault);
         }
     }
     Ok(())
 }
 
-/// The first fault of the specification that stands at `index`, after these earlier ones.
+/// Tests the list as [`check_childspecs`] does; an id is compared with those before it only where one of them has its mark.
+fn check_many(specs: &[ChildSpec], auto_shutdown: Option<AutoShutdown>) -> Result<(), SpecFault>
+    ensures { result ≡ answer_of (first_fault specs.now auto_shutdown) }
+{
+    let mut seen = [false; MARKS];
+    for (index, spec) in specs.iter().enumerate() {
+        let mark = mark_of(&spec.id);
+        let is_seen = seen[mark];
+        if let Some(fault) = fault_at(auto_shutdown, index, &specs[..index], is_seen, spec) {
+            return Err(fault);
+        }
+        seen[mark] = true;
+    }
+    Ok(())
+}
+
+/// The first fault of the specification that stands at `index`, after these earlier ones. One of them may have its id, or none
+/// has.
 fn fault_at(
     auto_shutdown: Option<AutoShutdown>,
     index: usize,
     earlier: &[ChildSpec],
+    may_repeat: bool,
     spec: &ChildSpec,
 ) -> Option<SpecFault>
+    requires { may_repeat ≡ false → list_any (has_id_of spec.now) earlier.now ≡ false }
     ensures { result ≡ first_of (faults_at auto_shutdown index earlier.now spec.now) }
 {
     if !spec.id.is_lawful() {
@@ -63,7 +97,7 @@ fn fault_at(
     if spec.significant && is_never(auto_shutdown) {
         return Some(SpecFault::SignificantNever { index });
     }
-    if is_duplicate(spec, earlier) {
+    if repeats(spec, earlier, may_repeat) {
         return Some(SpecFault::DuplicateId { index });
     }
     None
@@ -74,6 +108,18 @@ fn is_never(auto_shutdown: Option<AutoShutdown>) -> bool
     ensures { result ≡ is_never auto_shutdown }
 {
     matches!(auto_shutdown, Some(AutoShutdown::Never))
+}
+
+/// Whether one of the earlier specifications has the id of this one, where one may have it.
+fn repeats(spec: &ChildSpec, earlier: &[ChildSpec], may_repeat: bool) -> bool
+    requires { may_repeat ≡ false → list_any (has_id_of spec.now) earlier.now ≡ false }
+    ensures { result ≡ list_any (has_id_of spec.now) earlier.now }
+{
+    if may_repeat {
+        is_duplicate(spec, earlier)
+    } else {
+        false
+    }
 }
 
 /// Whether one of the earlier specifications has the id of this one.

@@ -271,8 +271,8 @@ impl ChildSpec {
         }
     }
 
-    /// The same for a child of this type: a supervisor has as much time to shut down as it wants (Supervisor Behaviour,
-    /// "Child Specification", shutdown).
+    /// A specification with the manual's defaults for a child of this type: a supervisor has as much time to shut down as it wants
+    /// (Supervisor Behaviour, "Child Specification", shutdown).
     pub fn of(kind: ChildType, id: Name, start: Name) -> Self
         ensures { result ≡ default_spec_of kind id start }
     {

@@ -6,6 +6,7 @@ pub mod child;
 pub mod fault;
 pub mod flags;
 pub mod limits;
+mod marks;
 pub mod supervisor;
 mod word;
 

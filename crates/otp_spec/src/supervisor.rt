@@ -39,7 +39,7 @@ impl SupSpec {
         SupSpec { flags, specs }
     }
 
-    /// The same for flags and specifications that nobody has tested.
+    /// Flags and specifications that nobody has tested; tests them.
     ///
     /// # Errors
     ///

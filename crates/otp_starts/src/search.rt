@@ -134,7 +134,7 @@ fn found_in(alloc: Global, file: &[u8]) -> Result<Vec<StartFinding>, AllocError>
     found
 }
 
-/// The same, and at least that there is such a start.
+/// What is found in a file whose tree is refused for its starts, and at least that there is such a start.
 fn refused_in(alloc: Global, file: &[u8]) -> Result<Vec<StartFinding>, AllocError>
     ensures { IfOk result (λ found. ¬ (found.items ≡ [])) }
 {

@@ -71,7 +71,7 @@ impl Model for Stops {
 impl Stops {
     ghost use Rattle.std.specs.Prelude.{◌≡◌, ◌∷◌, ◌++◌, [], OnOk};
 
-    /// None yet.
+    /// No stops yet.
     pub(crate) fn new(alloc: Global) -> Self
         ensures { result ≡ [] }
     {
@@ -80,14 +80,14 @@ impl Stops {
         }
     }
 
-    /// They in their order.
+    /// The stops in their order.
     pub fn as_slice(&self) -> &[Stop]
         ensures { result.now ≡ self.now }
     {
         &self.stops
     }
 
-    /// Puts one behind the others.
+    /// Puts a stop behind the others.
     pub(crate) fn push(&mut self, stop: Stop) -> Result<(), AllocError>
         ensures { OnOk result (self.new ≡ self.old ++ stop ∷ []) }
     {

@@ -1,10 +1,11 @@
 -- What the kept events stand for.
-use Rattle.std.specs.Prelude.{ℕ, Bool, true, false, IsTrue, if◌then◌else◌, ◌+◌, ◌<◌, ◌≤◌, List, [], Option, Some, None, All, get_or, length, map, vec_len, vec_capacity}
+use Rattle.std.specs.Prelude.{ℕ, Bool, true, false, not, ◌&&◌, ◌==◌, IsTrue, if◌then◌else◌, ◌+◌, ◌-◌, ◌<◌, ◌≤◌, List, [], ◌∷◌, ◌++◌, Option, Some, None, All, get_or, length, map, vec_len, vec_capacity}
 use Rattle.otp_reason.specs.declared.note.Note.TheVariants as note
 use Rattle.otp_reason.specs.declared.reason.Reason.{Reason}
 use Rattle.otp_reason.specs.declared.reason.Reason.TheVariants as reason
 use Rattle.otp_reason.specs.declared.text.Text.{Text}
-use Rattle.otp_reason.specs.Texts.{text_with}
+use Rattle.std.specs.Str.{bytes_eq}
+use Rattle.otp_reason.specs.Texts.{text_block, text_with}
 use Rattle.otp_rules.specs.declared.call.Call.{Call}
 use Rattle.otp_rules.specs.declared.call.Call.TheVariants as call
 use Rattle.otp_rules.specs.declared.event.Event.{Event}
@@ -20,6 +21,19 @@ use Rattle.otp_stores.specs.declared.history.Tag.TheVariants as tag
 use Rattle.otp_stores.specs.declared.history.Why.{Why}
 use Rattle.otp_stores.specs.declared.history.Why.TheVariants as why
 use Rattle.otp_stores.specs.Events.{Events}
+
+-- the last of these blocks has these bytes
+abbrev pub is_last_block : List ℕ → List (List ℕ) → Bool
+is_last_block block blocks = not (length blocks == 0) && bytes_eq (get_or blocks (length blocks - 1) []) block
+
+-- these blocks and then this one, unless it is the last of them (own)
+unfoldable pub with_block : List ℕ → List (List ℕ) → List (List ℕ)
+with_block block blocks = if is_last_block block blocks then blocks else blocks ++ block ∷ []
+
+-- these blocks with those of terms
+abbrev pub with_terms : List Text → List (List ℕ) → List (List ℕ)
+with_terms [] blocks = blocks
+with_terms (term ∷ terms) blocks = with_terms terms (with_block (text_block term) blocks)
 
 -- the term that shows so many of the bytes at a place
 abbrev pub term_at : List (List ℕ) → ℕ → ℕ → Text

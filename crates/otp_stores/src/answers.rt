@@ -281,7 +281,7 @@ fn is_last(told: &[Answer], call: u64) -> bool {
     !told.is_empty() && told[told.len() - 1].call == call
 }
 
-/// The same, of calls whose numbers rise.
+/// Where the reply of the answer to this call stands, where the calls' numbers rise: found by halving.
 fn find_rising(told: &[Answer], call: u64) -> Option<usize>
     requires { AllPairs (λ one later. one.call < later.call) told.now }
     ensures none { result ≡ None → (replies : List Reply) → reply_of call (map (answer_in replies) told.now) ≡ None }
@@ -306,7 +306,7 @@ fn first_from(told: &[Answer], call: u64) -> usize
     told.partition_point(|answer| answer.call < call)
 }
 
-/// The same, by a walk. It begins at the end, where a fresh answer is.
+/// Where the reply of the last answer to this call stands, found by a walk from the end, where a fresh answer is.
 fn find_last(told: &[Answer], call: u64) -> Option<usize>
     ensures none { result ≡ None → (replies : List Reply) → reply_of call (map (answer_in replies) told.now) ≡ None }
     ensures some { IfSome result (λ place. (replies : List Reply) → reply_of call (map (answer_in replies) told.now) ≡ Some (get_or replies place reply.Ok)) }

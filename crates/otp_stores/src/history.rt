@@ -1,10 +1,11 @@
 //! The events of a supervisor, kept. Most of them are short, and few have a term or a call, so these stand beside them: an
-//! event takes 32 bytes, the term of its reason [`TEXT_SIZE`] more, and its call what a call takes.
+//! event takes 32 bytes, the term of its reason [`TEXT_SIZE`] more unless it is that of the last that had one, and its call
+//! what a call takes.
 
-ghost use Rattle.std.specs.Prelude.{◌≡◌, ◌+◌, ◌<◌, ◌≤◌, ◌++◌, ◌∷◌, [], IsTrue, Some, length, map, slice_get, OnOk, OnErr, vec_len, vec_capacity};
+ghost use Rattle.std.specs.Prelude.{◌≡◌, ◌+◌, ◌-◌, ◌<◌, ◌≤◌, ◌++◌, ◌∷◌, [], IsTrue, Some, length, map, slice_get, OnOk, OnErr, vec_len, vec_capacity};
 ghost use Rattle.otp_reason.specs.Texts.{text_block, text_with};
 ghost use Rattle.otp_stores.specs.Events.{calls_in, terms_in, terms_of};
-ghost use Rattle.otp_stores.specs.HistoryInside.{kind_of, number_of, plain_kind, reason_as, shows_term, term_at, KindWithin};
+ghost use Rattle.otp_stores.specs.HistoryInside.{is_last_block, kind_of, number_of, plain_kind, reason_as, shows_term, term_at, with_block, with_terms, KindWithin};
 
 use crate::past::Past;
 use otp_reason::{Note, Reason, TEXT_SIZE, Text};
@@ -205,40 +206,82 @@ fn plain(tag: Tag, subject: u64, starts: bool) -> ShortKind
     }
 }
 
-/// Puts the bytes of a term last, and says how many of them it shows.
-fn put_term(term: &Text, terms: &mut Vec<[u8; TEXT_SIZE]>) -> u8
+/// Whether the last of these blocks has these bytes.
+fn is_last_block(terms: &[[u8; TEXT_SIZE]], bytes: &[u8; TEXT_SIZE]) -> bool
+    ensures { result ≡ is_last_block bytes.now terms.now }
+{
+    if terms.is_empty() {
+        false
+    } else {
+        terms[terms.len() - 1] == *bytes
+    }
+}
+
+/// Puts a block last, unless it stands there: where a child fails again and again for one reason, its term is kept once.
+#[tactic(auto, unfolding(crate::specs::HistoryInside::with_block))]
+fn put_block(bytes: [u8; TEXT_SIZE], terms: &mut Vec<[u8; TEXT_SIZE]>)
     requires { vec_len terms.old < vec_capacity terms.old }
-    ensures terms { terms.new.items ≡ terms.old.items ++ text_block term.now ∷ [] }
-    ensures shown { text_with (text_block term.now) result ≡ term.now }
-    ensures len { vec_len terms.new ≡ vec_len terms.old + 1 }
+    ensures terms { terms.new.items ≡ with_block bytes terms.old.items }
+    ensures len { vec_len terms.new ≤ vec_len terms.old + 1 }
+    ensures capacity { vec_capacity terms.new ≡ vec_capacity terms.old }
+{
+    if !is_last_block(terms, &bytes) {
+        terms.push_reserved(bytes);
+    }
+}
+
+/// The place of the last of these blocks.
+fn last_place(terms: &[[u8; TEXT_SIZE]]) -> u32
+    requires some { 0 < length terms.now }
+    requires few { length terms.now ≤ MAX_PLACES }
+    ensures { result ≡ length terms.now - 1 }
+{
+    (terms.len() - 1) as u32
+}
+
+/// Keeps the bytes of a term. Where they stand, and how many of them it shows.
+fn put_term(term: &Text, terms: &mut Vec<[u8; TEXT_SIZE]>) -> (u32, u8)
+    requires room { vec_len terms.old < vec_capacity terms.old }
+    requires few { vec_len terms.old < MAX_PLACES }
+    ensures terms { terms.new.items ≡ with_block (text_block term.now) terms.old.items }
+    ensures term { term_at terms.new.items result.0 result.1 ≡ term.now }
+    ensures within { result.0 < length terms.new.items }
+    ensures len { vec_len terms.new ≤ vec_len terms.old + 1 }
     ensures capacity { vec_capacity terms.new ≡ vec_capacity terms.old }
 {
     let (bytes, shown) = term.parts();
-    terms.push_reserved(bytes);
-    shown
+    put_block(bytes, terms);
+    (last_place(terms), shown)
 }
 
-/// The kind of a reason, and how many bytes its term shows, which is put last.
-fn put_reason(reason: &Reason, terms: &mut Vec<[u8; TEXT_SIZE]>) -> (Why, u8)
-    requires { vec_len terms.old < vec_capacity terms.old }
-    ensures terms { terms.new.items ≡ terms.old.items ++ map text_block (terms_of reason.now) }
-    ensures reason { reason_as result.0 (term_at terms.new.items (length terms.old.items) result.1) ≡ reason.now }
-    ensures within { IsTrue (shows_term result.0) → length terms.old.items < length terms.new.items }
+/// The kind of a reason; where its term stands, and how many bytes it shows, once it is kept.
+fn put_reason(reason: &Reason, terms: &mut Vec<[u8; TEXT_SIZE]>) -> (Why, u32, u8)
+    requires room { vec_len terms.old < vec_capacity terms.old }
+    requires few { vec_len terms.old < MAX_PLACES }
+    ensures terms { terms.new.items ≡ with_terms (terms_of reason.now) terms.old.items }
+    ensures reason { reason_as result.0 (term_at terms.new.items result.1 result.2) ≡ reason.now }
+    ensures within { IsTrue (shows_term result.0) → result.1 < length terms.new.items }
     ensures len { vec_len terms.new ≤ vec_len terms.old + 1 }
     ensures capacity { vec_capacity terms.new ≡ vec_capacity terms.old }
 {
     match reason {
-        Reason::Normal => (Why::Normal, 0),
-        Reason::Shutdown => (Why::Shutdown, 0),
-        Reason::ShutdownWith(term) => (Why::ShutdownWith, put_term(term, terms)),
-        Reason::Kill => (Why::Kill, 0),
-        Reason::Killed => (Why::Killed, 0),
-        Reason::NoProc => (Why::NoProc, 0),
-        Reason::Error(term) => (Why::Error, put_term(term, terms)),
+        Reason::Normal => (Why::Normal, 0, 0),
+        Reason::Shutdown => (Why::Shutdown, 0, 0),
+        Reason::ShutdownWith(term) => {
+            let (place, shown) = put_term(term, terms);
+            (Why::ShutdownWith, place, shown)
+        }
+        Reason::Kill => (Why::Kill, 0, 0),
+        Reason::Killed => (Why::Killed, 0, 0),
+        Reason::NoProc => (Why::NoProc, 0, 0),
+        Reason::Error(term) => {
+            let (place, shown) = put_term(term, terms);
+            (Why::Error, place, shown)
+        }
     }
 }
 
-/// What happened, its term and its call, if it has any, put last.
+/// What happened, its term and its call kept, if it has any.
 fn short_kind(
     kind: &Kind,
     starts: bool,
@@ -249,7 +292,7 @@ fn short_kind(
     requires calls { vec_len calls.old < vec_capacity calls.old }
     requires few_terms { vec_len terms.old < MAX_PLACES }
     requires few_calls { vec_len calls.old < MAX_PLACES }
-    ensures terms { terms.new.items ≡ terms.old.items ++ map text_block (terms_in kind.now) }
+    ensures terms { terms.new.items ≡ with_terms (terms_in kind.now) terms.old.items }
     ensures calls { calls.new.items ≡ calls.old.items ++ calls_in kind.now }
     ensures kind { kind_of terms.new.items calls.new.items result ≡ kind.now }
     ensures starts { result.starts ≡ starts }
@@ -283,7 +326,7 @@ fn short_kind(
     }
 }
 
-/// The end of a process, or of its start, with its reason, the term put last.
+/// The end of a process, or of its start, with its reason, the term kept.
 fn ended(
     tag: Tag,
     subject: u64,
@@ -293,7 +336,7 @@ fn ended(
 ) -> ShortKind
     requires terms { vec_len terms.old < vec_capacity terms.old }
     requires few { vec_len terms.old < MAX_PLACES }
-    ensures terms { terms.new.items ≡ terms.old.items ++ map text_block (terms_of reason.now) }
+    ensures terms { terms.new.items ≡ with_terms (terms_of reason.now) terms.old.items }
     ensures reason { reason_as result.why (term_at terms.new.items result.place result.shown) ≡ reason.now }
     ensures within { IsTrue (shows_term result.why) → result.place < length terms.new.items }
     ensures tag { result.tag ≡ tag }
@@ -302,8 +345,7 @@ fn ended(
     ensures len { vec_len terms.new ≤ vec_len terms.old + 1 }
     ensures capacity { vec_capacity terms.new ≡ vec_capacity terms.old }
 {
-    let place = terms.len() as u32;
-    let (why, shown) = put_reason(reason, terms);
+    let (why, place, shown) = put_reason(reason, terms);
     ShortKind {
         place,
         shown,

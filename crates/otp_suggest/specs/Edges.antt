@@ -1,6 +1,6 @@
 -- The least intensity, or the greatest period, with which a supervisor survives crashes of a child (own).
 use Rattle.std.specs.Prelude.{◌≡◌, ℕ, ◌+◌, ◌-◌, ◌<◌, ◌≤◌, List}
-use Rattle.otp_limits.specs.Costs.{IsJudged}
+use Rattle.otp_limits.specs.Costs.{IsJudged, IsUnknown}
 use Rattle.otp_trial.specs.declared.clock.Clock.{Clock}
 use Rattle.otp_limits.specs.declared.steady.Verdict.{Verdict}
 use Rattle.otp_limits.specs.declared.steady.Verdict.TheVariants.{Falls, Lasts}
@@ -49,3 +49,7 @@ pub record AreBounds (dial : Dial) (clock : Clock) (flags : SupFlags) (specs : L
   pub limit : bounds.long ≤ MAX_PERIOD
   pub falls : IsJudgedAt dial clock flags specs id gap bounds.short Falls
   pub lasts : IsJudgedAt dial clock flags specs id gap bounds.long Lasts
+
+-- the edge can't be found: with one of the values a run can't be played to its end
+abbrev pub IsEdgeless : Dial → SupFlags → List ChildSpec → Name → Type 0
+IsEdgeless dial flags specs id = (value : ℕ) × IsUnknown (turned dial value flags) specs id

@@ -1,9 +1,9 @@
 -- What would survive crashes of a child, as it is told (own).
-use Rattle.std.specs.Prelude.{◌≡◌, ℕ, Bool, true, false, ◌||◌, List, [], ◌++◌, Option, Some, None, codes, decimal, slice_index_or}
+use Rattle.std.specs.Prelude.{◌≡◌, ◌⊎◌, ℕ, Bool, true, false, ◌||◌, List, [], ◌++◌, Option, Some, None, codes, decimal, slice_index_or}
 use Rattle.otp_file.specs.Trees.{Tree}
 use Rattle.otp_folds.specs.Table.{clip}
 use Rattle.otp_folds.specs.Words.{at_left}
-use Rattle.otp_limits.specs.Costs.{IsJudged}
+use Rattle.otp_limits.specs.Costs.{IsJudged, IsUnknown}
 use Rattle.otp_limits.specs.Falls.{supervisor_path}
 use Rattle.otp_limits.specs.Fates.{Plays}
 use Rattle.otp_trial.specs.declared.clock.Clock.{Clock}
@@ -19,7 +19,7 @@ use Rattle.otp_spec.specs.declared.child.ChildType.TheVariants.{Worker, Supervis
 use Rattle.otp_spec.specs.declared.flags.SupFlags.{SupFlags}
 use Rattle.otp_spec.specs.declared.limits.TheConstants.{MAX_INTENSITY}
 use Rattle.otp_trial.specs.Played.{IsPlanted, Seated}
-use Rattle.otp_suggest.specs.Edges.{IsEdge, turned}
+use Rattle.otp_suggest.specs.Edges.{IsEdge, IsEdgeless, turned}
 use Rattle.otp_suggest.specs.Found.{child_from}
 use Rattle.otp_suggest.specs.declared.dial.Dial.TheVariants.{Intensity, Period}
 use Rattle.otp_suggest.specs.declared.edge.Edge.{Edge}
@@ -40,6 +40,11 @@ pub record IsSuggestion (flags : SupFlags) (specs : List ChildSpec) (id : Name) 
   pub twice : Plays (turned Intensity MAX_INTENSITY flags) specs Milliseconds id 0 2 said.twice
   pub ours : IsAdvice Milliseconds flags specs id gap said.ours
   pub theirs : IsAdvice Seconds flags specs id gap said.theirs
+
+-- what they say can't be found: a run of crashes of this child can't be played to its end, with the flags as they are or with
+-- another intensity or period
+unfoldable pub IsUnadvised : SupFlags → List ChildSpec → Name → Type 0
+IsUnadvised flags specs id = IsUnknown flags specs id ⊎ (IsEdgeless Intensity flags specs id ⊎ IsEdgeless Period flags specs id)
 
 unfoldable pub verdict_text : Verdict → List ℕ
 verdict_text Lasts = codes "yes"
@@ -156,3 +161,18 @@ pub record Suggests (tree : Tree) (name : List ℕ) (gap : ℕ) (answer : Answer
   pub seats : List Seated
   pub planted : IsPlanted true tree seats
   pub tells : TellsFound name gap seats (child_from 0 name seats) answer before after
+
+-- crashes of the child with this id, of the supervisor at this place, can't be played to their end
+abbrev pub IsUnadvisedAt : List Seated → ℕ → Name → Type 0
+IsUnadvisedAt seats place id = (seat : Seated) × ((seat ≡ slice_index_or seats place seat) × IsUnadvised seat.base.flags seat.base.specs id)
+
+-- the same of the child that was found, if one was; no run is made of a supervisor's own crashes
+abbrev pub IsUnadvisedIn : List Seated → Option (ℕ × ChildSpec) → Type 0
+IsUnadvisedIn seats None = ⊥
+IsUnadvisedIn seats (Some found) = (found.1.kind ≡ Worker) × IsUnadvisedAt seats found.0 found.1.id
+
+-- nothing can be suggested to the child of a tree with this name
+pub record IsUnsuggested (tree : Tree) (name : List ℕ) : Type 0 where
+  pub seats : List Seated
+  pub planted : IsPlanted true tree seats
+  pub unadvised : IsUnadvisedIn seats (child_from 0 name seats)

@@ -1,11 +1,13 @@
 //! What would survive crashes of a child.
 
-ghost use Rattle.std.specs.Prelude.{◌≤◌, ◌^◌, IfOk};
+ghost use Rattle.std.specs.Prelude.{◌≡◌, ◌≤◌, ◌^◌, IfErr, IfOk};
 ghost use Rattle.otp_limits.specs.Fates.{Plays};
 ghost use Rattle.otp_trial.specs.declared.clock.Clock.TheVariants.{Milliseconds};
 ghost use Rattle.otp_spec.specs.declared.limits.TheConstants.{MAX_INTENSITY};
+ghost use Rattle.otp_trial.specs.declared.trial.Halt.TheVariants.{HistoryFull};
+ghost use Rattle.otp_limits.specs.Costs.{IsUnknown};
 ghost use Rattle.otp_suggest.specs.Edges.{turned};
-ghost use Rattle.otp_suggest.specs.Told.{IsAdvice, IsSuggestion};
+ghost use Rattle.otp_suggest.specs.Told.{IsAdvice, IsSuggestion, IsUnadvised};
 ghost use Rattle.otp_suggest.specs.declared.dial.Dial.TheVariants.{Intensity};
 
 use crate::dial::Dial;
@@ -44,6 +46,7 @@ pub struct Suggestion {
 /// # Errors
 ///
 /// Where memory is refused, or a supervisor has 2^62 events before the last crash of a run.
+#[tactic(auto, unfolding(crate::specs::Told::IsUnadvised))]
 pub fn find_advice(
     alloc: Global,
     supervisor: &SupSpec,
@@ -52,7 +55,8 @@ pub fn find_advice(
     gap: u64,
 ) -> Result<Advice, Halt>
     requires gap { gap ≤ 2 ^ 30 }
-    ensures { IfOk result (IsAdvice clock supervisor.now.flags supervisor.now.specs id.now gap) }
+    ensures ok { IfOk result (IsAdvice clock supervisor.now.flags supervisor.now.specs id.now gap) }
+    ensures full { IfErr result (λ halt. halt ≡ HistoryFull → IsUnadvised supervisor.now.flags supervisor.now.specs id.now) }
 {
     let today = judge(alloc, supervisor, clock, id, gap)?;
     let intensity = find_edge(alloc, supervisor, clock, id, gap, Dial::Intensity)?;
@@ -64,12 +68,21 @@ pub fn find_advice(
     })
 }
 
-/// How a supervisor fares with the greatest intensity where a child crashes twice at once.
+/// How a supervisor fares where a child crashes twice at once.
+fn play_two(alloc: Global, supervisor: &SupSpec, id: &Name) -> Result<Fate, Halt>
+    ensures ok { IfOk result (Plays supervisor.now.flags supervisor.now.specs Milliseconds id.now 0 2) }
+    ensures full { IfErr result (λ halt. halt ≡ HistoryFull → IsUnknown supervisor.now.flags supervisor.now.specs id.now) }
+{
+    play(alloc, supervisor, Clock::Milliseconds, id, 0, 2)
+}
+
+/// The same with the greatest intensity.
 fn play_twice(alloc: Global, supervisor: &SupSpec, id: &Name) -> Result<Fate, Halt>
-    ensures { IfOk result (Plays (turned Intensity MAX_INTENSITY supervisor.now.flags) supervisor.now.specs Milliseconds id.now 0 2) }
+    ensures ok { IfOk result (Plays (turned Intensity MAX_INTENSITY supervisor.now.flags) supervisor.now.specs Milliseconds id.now 0 2) }
+    ensures full { IfErr result (λ halt. halt ≡ HistoryFull → IsUnknown (turned Intensity MAX_INTENSITY supervisor.now.flags) supervisor.now.specs id.now) }
 {
     let other = with_value(alloc, supervisor, Dial::Intensity, MAX_INTENSITY)?;
-    let fate = play(alloc, &other, Clock::Milliseconds, id, 0, 2);
+    let fate = play_two(alloc, &other, id);
     drop(other);
     fate
 }
@@ -79,6 +92,7 @@ fn play_twice(alloc: Global, supervisor: &SupSpec, id: &Name) -> Result<Fate, Ha
 /// # Errors
 ///
 /// Where memory is refused, or a supervisor has 2^62 events before the last crash of a run.
+#[tactic(auto, unfolding(crate::specs::Told::IsUnadvised))]
 pub fn find_suggestion(
     alloc: Global,
     supervisor: &SupSpec,
@@ -86,7 +100,8 @@ pub fn find_suggestion(
     gap: u64,
 ) -> Result<Suggestion, Halt>
     requires gap { gap ≤ 2 ^ 30 }
-    ensures { IfOk result (IsSuggestion supervisor.now.flags supervisor.now.specs id.now gap) }
+    ensures ok { IfOk result (IsSuggestion supervisor.now.flags supervisor.now.specs id.now gap) }
+    ensures full { IfErr result (λ halt. halt ≡ HistoryFull → IsUnadvised supervisor.now.flags supervisor.now.specs id.now) }
 {
     let twice = play_twice(alloc, supervisor, id)?;
     let ours = find_advice(alloc, supervisor, Clock::Milliseconds, id, gap)?;

@@ -1,9 +1,11 @@
 //! The least intensity, or the greatest period, with which a supervisor survives crashes of a child.
 
-ghost use Rattle.std.specs.Prelude.{◌≡◌, ◌≤◌, ◌<◌, ◌^◌, ◌-◌, IfOk};
+ghost use Rattle.std.specs.Prelude.{◌≡◌, ◌≤◌, ◌<◌, ◌^◌, ◌-◌, IfErr, IfOk};
 ghost use Rattle.otp_limits.specs.declared.steady.Verdict.TheVariants.{Falls, Lasts};
 ghost use Rattle.otp_spec.specs.declared.limits.TheConstants.{MAX_PERIOD};
-ghost use Rattle.otp_suggest.specs.Edges.{AreBounds, IsEdge, IsJudgedAt, last_step, turned};
+ghost use Rattle.otp_trial.specs.declared.trial.Halt.TheVariants.{HistoryFull, OutOfMemory};
+ghost use Rattle.otp_suggest.specs.Edges.{AreBounds, IsEdge, IsEdgeless, IsJudgedAt, last_step, turned, value_at};
+ghost use Rattle.otp_limits.specs.Costs.{IsUnknown};
 
 use crate::dial::Dial;
 use otp_limits::{Verdict, judge};
@@ -37,13 +39,14 @@ pub(crate) fn with_value(
     dial: Dial,
     value: u64,
 ) -> Result<SupSpec, Halt>
-    ensures { IfOk result (λ other. other ≡ record { flags = turned dial value supervisor.now.flags; specs = supervisor.now.specs }) }
+    ensures ok { IfOk result (λ other. other ≡ record { flags = turned dial value supervisor.now.flags; specs = supervisor.now.specs }) }
+    ensures err { IfErr result (λ halt. halt ≡ OutOfMemory) }
 {
     let specs = copy_specs(alloc, supervisor.specs())?;
     let flags = dial.turned(value, supervisor.flags());
     match SupSpec::check(flags, specs) {
         Ok(other) => Ok(other),
-        // Whether specifications are lawful hangs on neither flag, and each value is.
+        // Neither flag decides whether specifications are lawful, and each of its values is.
         Err(_) => Err(Halt::OutOfMemory),
     }
 }
@@ -60,7 +63,8 @@ fn judge_at(
 ) -> Result<Verdict, Halt>
     requires gap { gap ≤ 2 ^ 30 }
     requires step { step ≤ MAX_PERIOD }
-    ensures { IfOk result (IsJudgedAt dial clock supervisor.now.flags supervisor.now.specs id.now gap step) }
+    ensures ok { IfOk result (IsJudgedAt dial clock supervisor.now.flags supervisor.now.specs id.now gap step) }
+    ensures full { IfErr result (λ halt. halt ≡ HistoryFull → IsUnknown (turned dial (value_at dial step) supervisor.now.flags) supervisor.now.specs id.now) }
 {
     let other = with_value(alloc, supervisor, dial, dial.value_at(step))?;
     let verdict = judge(alloc, &other, clock, id, gap);
@@ -84,6 +88,7 @@ fn narrow(
     requires inside { (bounds.short < step) × (step < bounds.long) }
     ensures bounds { IfOk result (AreBounds dial clock supervisor.now.flags supervisor.now.specs id.now gap) }
     ensures narrower { IfOk result (λ after. after.long - after.short < bounds.long - bounds.short) }
+    ensures full { IfErr result (λ halt. halt ≡ HistoryFull → IsEdgeless dial supervisor.now.flags supervisor.now.specs id.now) }
 {
     match judge_at(alloc, supervisor, clock, id, gap, dial, step)? {
         Verdict::Lasts => Ok(Bounds {
@@ -110,7 +115,8 @@ fn search(
     requires gap { gap ≤ 2 ^ 30 }
     requires falls { IsJudgedAt dial clock supervisor.now.flags supervisor.now.specs id.now gap 0 Falls }
     requires lasts { IsJudgedAt dial clock supervisor.now.flags supervisor.now.specs id.now gap (last_step dial) Lasts }
-    ensures { IfOk result (IsEdge dial clock supervisor.now.flags supervisor.now.specs id.now gap) }
+    ensures ok { IfOk result (IsEdge dial clock supervisor.now.flags supervisor.now.specs id.now gap) }
+    ensures full { IfErr result (λ halt. halt ≡ HistoryFull → IsEdgeless dial supervisor.now.flags supervisor.now.specs id.now) }
 {
     let mut bounds = Bounds {
         short: 0,
@@ -138,7 +144,8 @@ pub fn find_edge(
     dial: Dial,
 ) -> Result<Edge, Halt>
     requires gap { gap ≤ 2 ^ 30 }
-    ensures { IfOk result (IsEdge dial clock supervisor.now.flags supervisor.now.specs id.now gap) }
+    ensures ok { IfOk result (IsEdge dial clock supervisor.now.flags supervisor.now.specs id.now gap) }
+    ensures full { IfErr result (λ halt. halt ≡ HistoryFull → IsEdgeless dial supervisor.now.flags supervisor.now.specs id.now) }
 {
     match judge_at(alloc, supervisor, clock, id, gap, dial, 0)? {
         Verdict::Lasts => return Ok(Edge::Any),

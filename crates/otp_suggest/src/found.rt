@@ -37,7 +37,8 @@ fn child_in(
     Ok(None)
 }
 
-/// The same in these supervisors, of which the first stands at this place. The word is a place for a text.
+/// The first child with this name in these supervisors, of which the first stands at this place, and its supervisor's place. The
+/// word is a place for a text.
 fn find_from(
     place: usize,
     name: &[u8],

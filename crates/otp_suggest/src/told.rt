@@ -1,8 +1,9 @@
 //! What would survive crashes of a child, as it is told.
 
-ghost use Rattle.std.specs.Prelude.{◌≡◌, ◌≤◌, ◌<◌, ◌^◌, ◌++◌, ◌||◌, IfOk, IfSome, OnOk, Some, length};
+ghost use Rattle.std.specs.Prelude.{◌≡◌, ◌≤◌, ◌<◌, ◌^◌, ◌++◌, ◌||◌, IfErr, IfOk, IfSome, OnOk, Some, length};
 ghost use Rattle.otp_spec.specs.declared.child.ChildType.TheVariants.{Worker};
-ghost use Rattle.otp_suggest.specs.Told.{Suggests, TellsFound, TellsKind, advice_text, and_text, crashes_text, every_text, gap_text, has_text, intensities_text, intensity_text, is_nowhere, line_text, no_intensity_text, no_period_text, period_text, periods_text, question_text, table_text, than_text, titles_text, today_text, verdict_text, why_text, within_text};
+ghost use Rattle.otp_trial.specs.declared.trial.Halt.TheVariants.{HistoryFull};
+ghost use Rattle.otp_suggest.specs.Told.{IsUnadvisedAt, IsUnadvisedIn, IsUnsuggested, Suggests, TellsFound, TellsKind, advice_text, and_text, crashes_text, every_text, gap_text, has_text, intensities_text, intensity_text, is_nowhere, line_text, no_intensity_text, no_period_text, period_text, periods_text, question_text, table_text, than_text, titles_text, today_text, verdict_text, why_text, within_text};
 
 use crate::advice::{Advice, Suggestion, find_suggestion};
 use crate::edge::Edge;
@@ -183,7 +184,7 @@ fn write_has(above: &[u8], intensity: u64, out: &mut Vec<u8>) -> Result<(), Allo
     write_number(intensity, out)
 }
 
-/// Appends which period it has.
+/// Appends which period its supervisor has.
 #[tactic(auto, unfolding(crate::specs::Told::and_text))]
 fn write_and(period: u64, out: &mut Vec<u8>) -> Result<(), AllocError>
     ensures { OnOk result (out.new.items ≡ out.old.items ++ and_text period) }
@@ -338,7 +339,8 @@ fn tell_worker(
 ) -> Result<Answer, Halt>
     requires gap { gap ≤ 2 ^ 30 }
     requires inside { place < length seats.now }
-    ensures { IfOk result (λ answer. TellsKind Worker name.now gap seats.now place id.now answer out.old.items out.new.items) }
+    ensures ok { IfOk result (λ answer. TellsKind Worker name.now gap seats.now place id.now answer out.old.items out.new.items) }
+    ensures full { IfErr result (λ halt. halt ≡ HistoryFull → IsUnadvisedAt seats.now place id.now) }
 {
     let seat = &seats[place];
     let supervisor = seat.supervisor();
@@ -355,7 +357,7 @@ fn tell_worker(
     Ok(Answer::Told)
 }
 
-/// The same of a child of any type.
+/// Appends what would survive crashes of this child, if it is a worker.
 fn tell_child(
     alloc: Global,
     name: &[u8],
@@ -367,7 +369,8 @@ fn tell_child(
 ) -> Result<Answer, Halt>
     requires gap { gap ≤ 2 ^ 30 }
     requires inside { place < length seats.now }
-    ensures { IfOk result (λ answer. TellsKind spec.now.kind name.now gap seats.now place spec.now.id answer out.old.items out.new.items) }
+    ensures ok { IfOk result (λ answer. TellsKind spec.now.kind name.now gap seats.now place spec.now.id answer out.old.items out.new.items) }
+    ensures full { IfErr result (λ halt. halt ≡ HistoryFull → (spec.now.kind ≡ Worker) × IsUnadvisedAt seats.now place spec.now.id) }
 {
     match spec.kind {
         ChildType::Supervisor => Ok(Answer::IsSupervisor),
@@ -375,7 +378,7 @@ fn tell_child(
     }
 }
 
-/// The same of the child that was found, if one was.
+/// Appends what would survive crashes of the child that was found, if one was.
 fn tell_found(
     alloc: Global,
     name: &[u8],
@@ -386,7 +389,8 @@ fn tell_found(
 ) -> Result<Answer, Halt>
     requires gap { gap ≤ 2 ^ 30 }
     requires inside { IfSome found (λ at. at.0 < length seats.now) }
-    ensures { IfOk result (λ answer. TellsFound name.now gap seats.now found answer out.old.items out.new.items) }
+    ensures ok { IfOk result (λ answer. TellsFound name.now gap seats.now found answer out.old.items out.new.items) }
+    ensures full { IfErr result (λ halt. halt ≡ HistoryFull → IsUnadvisedIn seats.now found) }
 {
     match found {
         None => Ok(Answer::NoChild),
@@ -409,9 +413,12 @@ pub fn write_suggestion(
     out: &mut Vec<u8>,
 ) -> Result<Answer, Halt>
     requires gap { gap ≤ 2 ^ 30 }
-    ensures { IfOk result (λ answer. Suggests tree.now name.now gap answer out.old.items out.new.items) }
+    ensures ok { IfOk result (λ answer. Suggests tree.now name.now gap answer out.old.items out.new.items) }
+    ensures full { IfErr result (λ halt. halt ≡ HistoryFull → IsUnsuggested tree.now name.now) }
 {
-    let seats = plant_seats(alloc, tree)?;
+    let Ok(seats) = plant_seats(alloc, tree) else {
+        return Err(Halt::OutOfMemory);
+    };
     let Ok(found) = find_child(alloc, name, seats.as_slice()) else {
         drop(seats);
         return Err(Halt::OutOfMemory);

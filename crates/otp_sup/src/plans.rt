@@ -62,7 +62,8 @@ fn may_seat(core: &Core, kind: &Kind) -> bool
     }
 }
 
-/// The slot that such a child gets. It is searched for only where there may be one, as that walks over all children.
+/// The slot that a child gets which an event makes for a call that brought a body. It is searched for only where there may be such
+/// a child, as that walks over all children.
 fn free_for(core: &Core, kind: &Kind) -> Option<usize>
     ensures { result ≡ free_for (state_of core.now) kind.now }
 {
@@ -85,7 +86,7 @@ fn is_kept_at(core: &Core, note: &Note) -> bool
     }
 }
 
-/// Whether no child goes at an event, unless the supervisor ends: it takes such a note, and nothing waits.
+/// Whether no child goes at an event, unless the supervisor ends: it takes a note with which no child goes, and nothing waits.
 fn keeps_children(core: &Core, kind: &Kind) -> bool
     ensures { result ≡ keeps_children (state_of core.now) kind.now }
 {

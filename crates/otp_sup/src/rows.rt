@@ -75,7 +75,7 @@ fn stays_stopped(row: &Row) -> bool
     }
 }
 
-/// The same of the row whose process has this number, which the core finds. False where none has it.
+/// Whether [`stays_stopped`] is true of the row whose process has this number, which the core finds. False where none has it.
 pub(crate) fn keeps_row(core: &Core, number: u64) -> bool
     ensures { result ≡ keeps_row number (state_of core.now).rows }
 {

@@ -172,8 +172,8 @@ impl<N: SupNaming, B: Drop> Sup<N, B> {
     }
 
     /// The supervisor of this plan takes the place of the one under the lock, which had no event, with the bodies of its child
-    /// specifications: see [`Table::plan_anew`]. Where that had an event, nothing changes, and plan and bodies come back. So it is
-    /// where it isn't this place's own, which doesn't happen.
+    /// specifications: see [`Table::plan_anew`]. Where that one had an event, nothing changes, and plan and bodies come back. They
+    /// come back too where the table under the lock takes from another inbox, which doesn't happen.
     pub fn plan_anew<R: Wait>(
         &self,
         rt: &R,

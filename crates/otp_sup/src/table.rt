@@ -99,9 +99,9 @@ impl<N: SupNaming, B: Drop> Table<N, B> {
     /// intensity unless the supervisor is ending; and no process number is a child's in two supervisors.
     ///
     /// The last part is what `close_tree` of otp_tree says, which gets all seats back: this call says of it that its process
-    /// numbers are those that its own seat drew. Sent orders are those that it sent, followed by those
-    /// still to be sent; signals are the items of its inbox; the period is one since it was last opened (of all openings the law
-    /// `restart_rate` says it); one that is ending takes, or took, the one restart too many.
+    /// numbers are those that its own seat drew. Sent orders are those that it sent, followed by those still to be sent. Signals
+    /// are the items of its inbox. The period is one since it was last opened (of all openings the law `restart_rate` says it). A
+    /// supervisor that is ending takes, or took, the one restart too many.
     ///
     /// Each child has one body, at home or away. It is at home exactly where the child has no process, where a note of its
     /// process's end waits, and where its start is still to be sent; else it is away with the process. A body at home or away
@@ -111,9 +111,9 @@ impl<N: SupNaming, B: Drop> Table<N, B> {
     /// Besides, the words that it posted are those of the orders that were sent, in their order; a start is posted again where a
     /// port refused it. No two of its children have one slot, or one process. The counts that were published are those of its
     /// children before the first event and after each one; where the name has no plan they come behind what the place counted
-    /// before ([`Table::plan_anew`]). And each end of a supervisor that it was told came with a note of its history, for the
-    /// note's reason, and is shown. Whoever serves it was credited with a start for each one that it sent, and with a turn for each event and each time that its inbox
-    /// was found empty.
+    /// before ([`Table::plan_anew`]). Each end of a supervisor that it was told came with a note of its history, for the note's
+    /// reason, and is shown. Whoever serves it was credited with a start for each one that it sent, and with a turn for each event
+    /// and each time that its inbox was found empty.
     ///
     /// A checkpoint ([`Table::cut`]) drops the events so far. All of this is still said of the whole history, with the
     /// events that were dropped: those stand in contracts alone. Only the ends that it was told are those since then.

@@ -52,7 +52,7 @@ fn index_of(marks: &[Mark], key: u64) -> Option<usize>
     }
 }
 
-/// The same, by halving.
+/// Where the mark with this key stands, found by halving.
 fn search_index(marks: &[Mark], key: u64) -> Option<usize>
     requires { Rises marks.now }
     ensures { MatchOption result ((p : ℕ) → IsUnder key p marks.now → ⊥) (λ i. HasKey key i marks.now) }
@@ -119,7 +119,7 @@ fn shift_places(marks: &mut [Mark], place: usize)
     }
 }
 
-/// The same of a whole list.
+/// In the whole list each place above this one moves down by one.
 #[tactic(auto, using(crate::proofs::Rising::whole))]
 fn close_gap(marks: &mut Vec<Mark>, place: usize)
     ensures items { marks.new.items ≡ map (moved place) marks.old.items }

@@ -3,7 +3,7 @@ ghost use Rattle.otp_table.specs.Rows.{AreDefined, AreDefinedBut, awaits_retry, 
 ghost use Rattle.std.specs.List.{list_any};
 ghost use Rattle.otp_table.specs.declared.row.Row.{Row};
 
-use crate::counts::{Counts, counts_as, counts_with, counts_without};
+use crate::counts::{Counts, count_change, count_row, uncount_row};
 use crate::hints::Hints;
 use crate::keys::{id_in, id_key, number_in};
 use crate::marks::{Mark, change_mark, remove_mark};
@@ -109,14 +109,14 @@ impl Rows {
     pub fn has_awaited(&self) -> bool
         ensures { result ≡ list_any (row_has is_awaited) self.now.rows }
     {
-        self.counts.awaited > 0
+        self.counts.awaited() > 0
     }
 
     /// Whether a child was told to shut down until a deadline. Looks at no row.
     pub fn has_timed(&self) -> bool
         ensures { result ≡ list_any (row_has is_timed) self.now.rows }
     {
-        self.counts.timed > 0
+        self.counts.timed() > 0
     }
 
     /// Whether a significant child is left. Looks at no row.
@@ -131,7 +131,7 @@ impl Rows {
         ensures count { result ≡ count_by (row_has is_active) self.now.rows }
         ensures limit { result ≤ MAX_CHILDREN }
     {
-        self.counts.active
+        self.counts.active()
     }
 
     /// How many children are supervisors. Looks at no row.
@@ -252,7 +252,7 @@ impl Rows {
         if self.is_full() {
             return Err(SpecFault::TooManyChildren);
         }
-        self.counts = counts_with(&self.items, self.counts, &row);
+        count_row(&self.items, &mut self.counts, &row);
         self.defined = self.defined.min(self.items.len());
         let number = row.state.number();
         self.is_apart = stay_apart(
@@ -285,8 +285,8 @@ impl Rows {
         ensures len { length self.new.rows ≡ length self.old.rows }
         ensures room { self.new.room ≡ self.old.room }
     {
-        self.counts = counts_as(&self.items, self.counts, place, state);
-        self.defined = defined_after(self.defined, place, state, self.counts.undefined);
+        count_change(&self.items, &mut self.counts, place, state);
+        self.defined = defined_after(self.defined, place, state, self.counts.undefined());
         let old = number_in(&self.items, place);
         let number = state.number();
         self.is_apart = stay_apart(
@@ -338,7 +338,7 @@ impl Rows {
         ensures len { length self.new.rows + 1 ≡ length self.old.rows }
         ensures room { self.new.room ≡ self.old.room }
     {
-        self.counts = counts_without(&self.items, self.counts, place);
+        uncount_row(&self.items, &mut self.counts, place);
         self.defined = defined_without(self.defined, place);
         let id = id_in(&self.items, place);
         remove_mark(&mut self.ids, place, id);
@@ -386,7 +386,7 @@ fn defined_after(defined: usize, place: usize, state: RowState, undefined: usize
     defined
 }
 
-/// The same once the row at the place is taken out.
+/// How many rows, the first, are not undefined, once the row at the place is taken out.
 fn defined_without(defined: usize, place: usize) -> usize
     ensures less { result ≤ defined }
     ensures gone { place < defined → result + 1 ≡ defined }

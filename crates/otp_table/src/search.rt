@@ -107,7 +107,7 @@ pub fn number_near(rows: &[Row], place: usize, number: u64) -> Option<usize>
     }
 }
 
-/// The place of the row whose process has this number, found alike.
+/// The place of the row whose process has this number, where no two rows have one. The given place is looked at first.
 pub fn process_near(rows: &[Row], place: usize, number: u64) -> Option<usize>
     requires { AreApart (number_at rows.now) }
     ensures { result ≡ position (row_has (has_process number)) rows.now }
@@ -119,7 +119,7 @@ pub fn process_near(rows: &[Row], place: usize, number: u64) -> Option<usize>
     }
 }
 
-/// The place of the row that waits for the retry of this number, found alike.
+/// The place of the row that waits for the retry of this number, where no two rows have one. The given place is looked at first.
 pub fn retry_near(rows: &[Row], place: usize, number: u64) -> Option<usize>
     requires { AreApart (number_at rows.now) }
     ensures { result ≡ position (row_has (awaits_retry number)) rows.now }

@@ -1,5 +1,5 @@
 -- What is told of a run: each order as a line, at the time at which it was given, with the path of its supervisor (own).
-use Rattle.std.specs.Prelude.{ℕ, ◌==◌, ◌-◌, get_or, length, nat_le, take, Bool, true, List, [], ◌∷◌, ◌++◌, Option, Some, None, codes, decimal, if◌then◌else◌}
+use Rattle.std.specs.Prelude.{ℕ, ◌==◌, ◌-◌, get_or, length, nat_le, take, Bool, true, false, not, ◌||◌, List, [], ◌∷◌, ◌++◌, Option, Some, None, codes, decimal, if◌then◌else◌}
 use Rattle.std.specs.List.{flat_map}
 use Rattle.otp_reason.specs.declared.name.Name.{Name}
 use Rattle.otp_reason.specs.Names.{name_bytes}
@@ -112,18 +112,30 @@ order_text path starts (effect.End end) replies = heading path ++ end_text path 
 unfoldable pub told_line : ℕ → List ℕ → List Started → List Answered → Effect → List ℕ
 told_line time path starts replies order = time_text time ++ codes "  " ++ order_text path starts order replies
 
--- whether an order is told: of a supervisor that is told all are, and of another its end alone
-unfoldable pub is_told : Bool → Effect → Bool
-is_told tells (effect.Start _ _) = tells
-is_told tells (effect.Ask _ _) = tells
-is_told tells (effect.Kill _ _) = tells
-is_told tells (effect.Reply _) = tells
-is_told tells effect.Ready = tells
-is_told tells (effect.End _) = true
+-- a supervisor ends since it was asked to
+unfoldable pub is_asked : Cause → Bool
+is_asked (cause.Intensity _ _) = false
+is_asked (cause.Significant _) = false
+is_asked cause.Asked = true
+is_asked (cause.InitFailed _) = false
+
+-- the end of a supervisor is told by itself: that of the root always, and that of another unless its parent asked for it
+unfoldable pub is_news : List ℕ → Cause → Bool
+is_news [] why = true
+is_news (byte ∷ bytes) why = not (is_asked why)
+
+-- whether an order is told: of a supervisor that is told all are, and of another its end alone, if it is told by itself
+unfoldable pub is_told : Bool → List ℕ → Effect → Bool
+is_told tells path (effect.Start _ _) = tells
+is_told tells path (effect.Ask _ _) = tells
+is_told tells path (effect.Kill _ _) = tells
+is_told tells path (effect.Reply _) = tells
+is_told tells path effect.Ready = tells
+is_told tells path (effect.End end) = tells || is_news path end.cause
 
 -- the line of an order that was given at this time, if it is told
 unfoldable pub line_if : Bool → ℕ → List ℕ → List Started → List Answered → Effect → List ℕ
-line_if tells time path starts replies order = if is_told tells order then told_line time path starts replies order else []
+line_if tells time path starts replies order = if is_told tells path order then told_line time path starts replies order else []
 
 -- the lines of those orders that are told, which were given at this time
 unfoldable pub told_lines : Bool → ℕ → List ℕ → List Started → List Answered → List Effect → List ℕ

@@ -10,4 +10,4 @@ pub mod telling;
 pub mod time;
 
 pub use starts::Started;
-pub use strain::Strain;
+pub use strain::{Course, Strain};

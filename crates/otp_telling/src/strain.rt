@@ -1,14 +1,24 @@
 //! How a supervisor bears up over a whole run, however often it is started anew in it.
 
-ghost use Rattle.std.specs.Prelude.{◌≡◌, ◌≤◌};
+ghost use Rattle.std.specs.Prelude.{◌≡◌, ◌≤◌, ◌+◌, ◌-◌, ◌*◌, ◌&&◌, count_by, nat_le};
 ghost use Rattle.std.specs.List.{list_any};
-ghost use Rattle.otp_telling.specs.Strains.{given_up, in_seconds, is_apart, is_given_up, is_intensity, made_now, one_more, parted, second, strained, unstrained, used};
-ghost use Rattle.otp_window.specs.Period.{is_in_period};
+ghost use Rattle.otp_telling.specs.Strains.{course_after, first_course, given_up, is_apart, is_given_up, is_intensity, is_last, is_over_limit, made_now, may_give_up, one_more, parted, put_on, second, strained, unstrained, used};
 
-use otp_rules::{Cause, Effect};
+use otp_rules::{Cause, Effect, Kind};
 use otp_spec::SupFlags;
 use otp_timeline::restarts_in;
 use std::collections::VecDeque;
+
+/// Whether a supervisor that runs is on its way to its end.
+#[derive(Clone, Copy, Debug, PartialEq, Eq)]
+pub enum Course {
+    /// It isn't, as far as its restarts and its parent say.
+    Stays,
+    /// It was asked to shut down at this time.
+    Asked(u64),
+    /// It has given up at this time: there was a restart more than its intensity.
+    GivesUp(u64),
+}
 
 /// When a supervisor gave up, and the most restarts that lay in its period. Times are in milliseconds.
 #[derive(Clone, Copy, Debug, PartialEq, Eq)]
@@ -19,8 +29,10 @@ pub struct Strain {
     pub last: u64,
     /// The most restarts that lay in its period.
     pub most: u64,
-    /// When first a clock of whole seconds would have ended it, and this one didn't.
+    /// When first a clock of whole seconds may have ended it, as the second falls, and this one didn't.
     pub apart: Option<u64>,
+    /// Whether it is on its way to its end.
+    pub course: Course,
 }
 
 /// The second that has begun at this time, in milliseconds.
@@ -61,25 +73,32 @@ fn gives_up(orders: &[Effect]) -> bool
     orders.iter().any(|order| is_given_up(order))
 }
 
-/// Whether a restart lies in the period, where the clock shows whole seconds.
-fn is_in_seconds(period: u64, stamp: u64, now: u64) -> bool
-    ensures { result ≡ is_in_period period (second now) (second stamp) }
+/// Whether a restart lies so near that a clock of whole seconds shows it in the period, if a second ends as it is now.
+fn is_near(period: u64, stamp: u64, now: u64) -> bool
+    ensures { result ≡ (nat_le stamp now && nat_le (now - stamp) (1000 * period + 999)) }
 {
-    let (stamp, now) = (second(stamp), second(now));
-    stamp <= now && now - stamp <= period.saturating_mul(1000)
+    stamp <= now && now - stamp <= period.saturating_mul(1000).saturating_add(999)
 }
 
-/// How many of the restarts lie in the period, where the clock shows whole seconds.
-fn restarts_in_seconds(stamps: &VecDeque<u64>, period: u64, now: u64) -> u64
-    ensures { result ≡ in_seconds period stamps.now.items now }
+/// How many of the restarts lie so near.
+fn count_near(stamps: &VecDeque<u64>, period: u64, now: u64) -> u64
+    ensures { result ≡ count_by (λ stamp. nat_le stamp now && nat_le (now - stamp) (1000 * period + 999)) stamps.now.items }
 {
     let mut count: u64 = 0;
     for place in 0..stamps.len() {
-        if is_in_seconds(period, stamps[place], now) {
+        if is_near(period, stamps[place], now) {
             count += 1;
         }
     }
     count
+}
+
+/// Whether there is a phase of the second at which a clock of whole seconds ends the supervisor: at none it shows more restarts in
+/// the period than where a second ends as it is now.
+fn may_give_up(flags: &SupFlags, stamps: &VecDeque<u64>, now: u64) -> bool
+    ensures { result ≡ may_give_up flags.now stamps.now.items now }
+{
+    count_near(stamps, flags.period, now) > flags.intensity
 }
 
 /// How many of the restarts were made now.
@@ -95,14 +114,30 @@ fn made_now(stamps: &VecDeque<u64>, now: u64) -> u64
     count
 }
 
-/// Whether a restart was made now after which a clock of whole seconds ends the supervisor, and one of milliseconds doesn't.
+/// Whether more restarts than the intensity lie in the period.
+#[tactic(auto, unfolding(crate::specs::Strains::is_over_limit))]
+fn is_over_limit(flags: &SupFlags, stamps: &VecDeque<u64>, now: u64) -> bool
+    ensures { result ≡ is_over_limit flags.now stamps.now.items now }
+{
+    restarts_in(stamps, flags.period, now) > flags.intensity
+}
+
+/// Whether a restart was made now after which a clock of whole seconds may end the supervisor, and one of milliseconds doesn't.
 #[tactic(auto, unfolding(crate::specs::Strains::is_apart))]
 fn is_apart(flags: &SupFlags, stamps: &VecDeque<u64>, now: u64) -> bool
     ensures { result ≡ is_apart flags.now stamps.now.items now }
 {
     made_now(stamps, now) > 0
-        && restarts_in_seconds(stamps, flags.period, now) > flags.intensity
-        && restarts_in(stamps, flags.period, now) <= flags.intensity
+        && may_give_up(flags, stamps, now)
+        && !is_over_limit(flags, stamps, now)
+}
+
+/// Whether a restart was made now that is one too many.
+#[tactic(auto, unfolding(crate::specs::Strains::is_last))]
+fn is_last(flags: &SupFlags, stamps: &VecDeque<u64>, now: u64) -> bool
+    ensures { result ≡ is_last flags.now stamps.now.items now }
+{
+    made_now(stamps, now) > 0 && is_over_limit(flags, stamps, now)
 }
 
 /// A count more, while it fits.
@@ -113,8 +148,39 @@ fn one_more(count: u64) -> u64
     if count == u64::MAX { count } else { count + 1 }
 }
 
+impl Course {
+    /// This course, if it leads to an end already; else the other one.
+    #[tactic(auto, unfolding(crate::specs::Strains::first_course))]
+    fn first(self, to: Course) -> Self
+        ensures { result ≡ first_course to self }
+    {
+        match self {
+            Course::Stays => to,
+            course => course,
+        }
+    }
+
+    /// The course after an event of this kind, where the last restart is one too many or not.
+    #[tactic(auto, unfolding(crate::specs::Strains::course_after))]
+    fn after(self, kind: &Kind, now: u64, is_last: bool) -> Self
+        ensures { result ≡ course_after kind.now now is_last self }
+    {
+        match kind {
+            Kind::Opened(_) => Course::Stays,
+            Kind::Stopped => self.first(Course::Asked(now)),
+            Kind::Took(_) | Kind::Resumed | Kind::Ticked => {
+                if is_last {
+                    self.first(Course::GivesUp(now))
+                } else {
+                    self
+                }
+            }
+        }
+    }
+}
+
 impl Strain {
-    /// That of a supervisor that was never opened.
+    /// The strain of a supervisor that was never opened.
     pub fn new() -> Self
         ensures { result ≡ unstrained }
     {
@@ -123,6 +189,7 @@ impl Strain {
             last: 0,
             most: 0,
             apart: None,
+            course: Course::Stays,
         }
     }
 
@@ -139,6 +206,7 @@ impl Strain {
             last: now,
             most: self.most,
             apart: self.apart,
+            course: self.course,
         }
     }
 
@@ -153,6 +221,7 @@ impl Strain {
                 last: self.last,
                 most: restarts,
                 apart: self.apart,
+                course: self.course,
             }
         } else {
             self
@@ -172,22 +241,36 @@ impl Strain {
             last: self.last,
             most: self.most,
             apart: Some(now),
+            course: self.course,
         }
     }
 
-    /// What an event made of it, after which the supervisor has these restarts, and by which it gave these orders.
+    /// An event of this kind puts it on its course.
+    #[tactic(auto, unfolding(crate::specs::Strains::put_on))]
+    fn put_on(self, kind: &Kind, now: u64, is_last: bool) -> Self
+        ensures { result ≡ put_on kind.now now is_last self }
+    {
+        Strain {
+            course: self.course.after(kind, now, is_last),
+            ..self
+        }
+    }
+
+    /// What an event of this kind made of it, after which the supervisor has these restarts, and by which it gave these orders.
     #[tactic(auto, unfolding(crate::specs::Strains::strained))]
     pub fn strained(
         self,
         now: u64,
+        kind: &Kind,
         flags: &SupFlags,
         stamps: &VecDeque<u64>,
         orders: &[Effect],
     ) -> Self
-        ensures { result ≡ strained self now flags.now stamps.now.items orders.now }
+        ensures { result ≡ strained self now kind.now flags.now stamps.now.items orders.now }
     {
         self.given_up(gives_up(orders), now)
             .used(restarts_in(stamps, flags.period, now))
             .parted(is_apart(flags, stamps, now), now)
+            .put_on(kind, now, is_last(flags, stamps, now))
     }
 }

@@ -3,7 +3,7 @@
 ghost use Rattle.std.specs.Prelude.{◌≡◌, ◌++◌, OnOk, option_map};
 ghost use Rattle.otp_core.specs.View.{stored_state};
 ghost use Rattle.otp_rules.specs.Run.{reply_of};
-ghost use Rattle.otp_telling.specs.Story.{cause_text, child_order, end_text, heading, id_text, is_told, limit_text, line_if, number_after, order_text, restarts_text, restarts_word, significant_text, started_between, started_text, told_line, told_lines};
+ghost use Rattle.otp_telling.specs.Story.{cause_text, child_order, end_text, heading, id_text, is_asked, is_news, is_told, limit_text, line_if, number_after, order_text, restarts_text, restarts_word, significant_text, started_between, started_text, told_line, told_lines};
 
 use crate::starts::{Started, start_of};
 use crate::time::{write_few_times, write_time};
@@ -267,15 +267,37 @@ fn write_told(
     write_order(scene, core, order, printer, out)
 }
 
+/// Whether a supervisor ends since it was asked to.
+#[tactic(auto, unfolding(crate::specs::Story::is_asked))]
+fn is_asked(cause: &Cause) -> bool
+    ensures { result ≡ is_asked cause.now }
+{
+    match cause {
+        Cause::Asked => true,
+        Cause::Intensity { .. } | Cause::Significant(_) | Cause::InitFailed(_) => false,
+    }
+}
+
+/// Whether the end of a supervisor is told by itself: that of the root always, another's unless its parent asked for it.
+#[tactic(auto, unfolding(crate::specs::Story::is_news))]
+fn is_news(path: &[u8], cause: &Cause) -> bool
+    ensures { result ≡ is_news path.now cause.now }
+{
+    match path {
+        [] => true,
+        [_, ..] => !is_asked(cause),
+    }
+}
+
 /// Whether an order is told: all are, or an end alone.
 #[tactic(auto, unfolding(crate::specs::Story::is_told))]
-fn is_told(tells: bool, order: &Effect) -> bool
-    ensures { result ≡ is_told tells order.now }
+fn is_told(tells: bool, path: &[u8], order: &Effect) -> bool
+    ensures { result ≡ is_told tells path.now order.now }
 {
     match order {
         Effect::Start(..) | Effect::Ask(..) | Effect::Kill(..) => tells,
         Effect::Reply(_) | Effect::Ready => tells,
-        Effect::End(_) => true,
+        Effect::End(end) => tells || is_news(path, &end.cause),
     }
 }
 
@@ -290,7 +312,7 @@ fn write_line_if(
 ) -> Result<(), AllocError>
     ensures { OnOk result (out.new.items ≡ out.old.items ++ line_if scene.now.tells scene.now.time scene.now.path.now scene.now.starts.now (stored_state core.now).replies order.now) }
 {
-    if is_told(scene.tells, order) {
+    if is_told(scene.tells, scene.path, order) {
         write_told(scene, core, order, printer, out)
     } else {
         Ok(())

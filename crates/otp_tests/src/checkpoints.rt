@@ -137,7 +137,7 @@ fn lists_of_children_fill_a_core(rt: HostRuntime) {
     drop(file);
 }
 
-// The same as with a cut: of the checkpoint four events are counted, and none is stored.
+// What comes as with a cut, though no more is stored: of the checkpoint four events are counted, and none is stored.
 const MOVED_EARLY: [Step; 8] = [
     ("up 1", "start a #1\nready\n"),
     ("at 1000", ""),

@@ -387,7 +387,7 @@ impl Driver {
     }
 }
 
-/// The same by a new supervisor of this tree file.
+/// Does all steps by a new supervisor of this tree file.
 pub(crate) fn plays(rt: &impl Abort, alloc: Global, tree: &str, steps: &[Step]) {
     let mut driver = Driver::open(rt, alloc, tree);
     driver.play(rt, alloc, steps);

@@ -36,7 +36,7 @@ impl Verb {
         }
     }
 
-    /// The same, by one comparison after another.
+    /// The verb that is spelled so, found by one comparison after another.
     #[tactic(auto, unfolding(crate::specs::Lines::verb_of))]
     fn of_any(word: &[u8]) -> Option<Self>
         ensures { result ≡ verb_of word.now }

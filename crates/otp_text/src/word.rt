@@ -132,7 +132,7 @@ pub fn read_reason(word: &[u8]) -> Option<Reason>
     read_any_reason(word)
 }
 
-/// The same, by one comparison after another.
+/// The reason that is printed so, found by one comparison after another.
 #[tactic(auto, unfolding(crate::specs::Words::reason_in, crate::specs::Values::reason_text))]
 fn read_any_reason(word: &[u8]) -> Option<Reason>
     ensures { result ≡ reason_in word.now }

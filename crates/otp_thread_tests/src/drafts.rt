@@ -16,7 +16,7 @@ const THREE_LEVELS: &str = "\
 4: any
 ";
 
-// The same below another tree's three supervisors.
+// Those supervisors below another tree's three.
 const FROM_THREE: &str = "\
 3: db=w1 east=^4 gate=b west=^6 last=w9
 4: a=w2 deep=^5 b=w4

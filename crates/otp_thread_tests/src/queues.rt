@@ -271,7 +271,7 @@ fn acts_in<N: RunNaming, R: Abort>(
     drop(schedulers);
 }
 
-// The same with a new run queue of so many schedulers.
+// All is done in a new run queue of so many schedulers.
 fn plays<R: Abort>(rt: &R, alloc: Global, count: usize, rows: &[(usize, Act)])
     requires some { 0 < count }
     requires few { count ≤ all_parts }

@@ -41,7 +41,7 @@ pub(crate) fn add(rt: &impl Abort, draft: &mut Draft, id: &str, job: u64) {
     got(rt, "a worker was refused", added);
 }
 
-// The same of a supervisor.
+// Adds a supervisor, once more where memory was refused.
 pub(crate) fn put(rt: &impl Abort, draft: &mut Draft, id: &str, below: Draft) {
     let added = match draft.add_supervisor(id, below) {
         Err(

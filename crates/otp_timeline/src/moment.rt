@@ -73,14 +73,14 @@ impl Model for Standings {
 impl Standings {
     ghost use Rattle.std.specs.Prelude.{◌≡◌};
 
-    /// Those of these supervisors.
+    /// How these supervisors stand.
     pub fn new(items: Vec<Standing>) -> Self
         ensures { result ≡ items.items }
     {
         Standings { items }
     }
 
-    /// Each in the place of its supervisor.
+    /// How each stands, in the place of its supervisor.
     pub fn as_slice(&self) -> &[Standing]
         ensures { result.now ≡ self.now }
     {

@@ -223,7 +223,7 @@ fn write_added(
     out.extend_from_slice(b"\n")
 }
 
-/// Appends that line, if there are such children.
+/// Appends the line of the children without an id, if there are such children.
 #[tactic(auto, unfolding(crate::specs::Picture::added_lines))]
 fn write_all_added(
     look: Look,

@@ -1,7 +1,7 @@
 //! Supervisors are added to a running tree (supervisor, start_child/2, with a child that is a supervisor).
 ghost use Rattle.std.specs.Prelude.{◌≡◌, ◌<◌, IfErr, IfOk, OnOk, length};
 ghost use Rattle.otp_spec.specs.declared.limits.TheConstants.{MAX_TABLES};
-ghost use Rattle.otp_open.specs.Adds.{AreNear, AreWithin, Fit};
+ghost use Rattle.otp_open.specs.Adds.{AreNear, ArePlannedFrom, AreWithin, Fit};
 ghost use Rattle.otp_open.specs.Plans.{HaveBodies};
 ghost use Rattle.otp_tree.specs.Adds.{IsAddFault, IsGivenBack, IsOccupiedOnly};
 
@@ -37,8 +37,8 @@ pub struct Unadded<J: Drop, S: Drop> {
     pub plans: Vec<TablePlan<J, S>>,
 }
 
-/// Adds supervisors to the running tree: the first is the top of a tree of its own, each stands before those below its own
-/// children, and the body of a child that is a supervisor is its place among them, from 0 on, as where a tree is opened.
+/// Adds supervisors to the running tree. The first is the top of a tree of its own, and each stands before those below its own
+/// children. The body of a child that is a supervisor is its place among them, from 0 on, as where a tree is opened.
 ///
 /// They run once the top is somebody's child: the answer is its number, as the body of a start call
 /// ([`System::submit`]). Until then they can be called, and take the calls up when they run. All threads may add at
@@ -56,6 +56,8 @@ pub fn add_tree<N: SupNaming, J: Drop, S: Drop, R: Wait>(
 ) -> Result<TableNo, Unadded<J, S>>
     requires { 0 < length plans.items }
     ensures there { IfOk result (λ top. top < system.now.tables) }
+    // A table of each place from there on got the supervisor of its plan.
+    ensures planned { IfOk result (λ top. ArePlannedFrom N.plan top plans.items) }
     ensures bodies { OnOk result (HaveBodies plans.items) }
     ensures within { OnOk result (AreWithin plans.items) }
     ensures fault { IfErr result (λ back. IsAddFault plans.items back.fault) }
@@ -97,6 +99,7 @@ fn add_ready<N: SupNaming, J: Drop, S: Drop, R: Wait>(
     requires near { AreNear plans.items }
     requires fit { Fit plans.items spaces.items }
     ensures there { IfOk result (λ top. top < shared.now.tables) }
+    ensures planned { IfOk result (λ top. ArePlannedFrom N.plan top plans.items) }
     ensures fault { IfErr result (λ back. IsAddFault plans.items back.fault) }
     ensures back { IfErr result (IsGivenBack plans.items) }
     ensures occupied { IfErr result (λ back. IsOccupiedOnly N.plan back.fault) }

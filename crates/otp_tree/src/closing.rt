@@ -33,9 +33,9 @@ pub struct Unclosed<N: TreeNaming, J: Drop, S: Drop> {
 /// Of each supervisor stands what [`Table::keeps_rules`](otp_sup::Table::keeps_rules) says; and no process number is a child's in
 /// two supervisors (`apart`), since each one's seat comes home to the client's.
 ///
-/// What began and what ended adds up: as many processes began as starts were sent, and the root's (`starts`), and as many ended
-/// as notes of ends were made (`ends`): a supervisor took the note or left it, or whoever opened the tree did, or a hand had it
-/// still to send.
+/// What began and what ended adds up. As many processes began as starts were sent, and the root's (`starts`). As many ended as
+/// notes of ends were made (`ends`): a supervisor took the note or left it, or whoever opened the tree did, or a hand had it still
+/// to send.
 ///
 /// # Errors
 ///

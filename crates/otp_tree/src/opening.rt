@@ -17,8 +17,8 @@ use otp_hand::{Client, Hand, ROOT_NUMBER, ROOT_SLOT, TreeNaming};
 use otp_inbox::UnnamedInbox;
 use otp_job::{Body, Process, TableNo};
 use otp_open::{
-    Readied, SLOTS, Site, SystemFault, TablePlan, Unopened, find_lacking, make_hands, open_inboxes,
-    ready_all, seat,
+    Readied, Site, SystemFault, TablePlan, Unopened, find_lacking, make_hands, open_inboxes,
+    ready_all, seat, slots_of,
 };
 use otp_run::RunQueue;
 use otp_signals::OpenWords;
@@ -65,7 +65,7 @@ impl<J: Drop, S: Drop> Parts<J, S> {
         ensures fault { IfErr result (λ back. IsOpenFault plans.items back.fault) }
         ensures back { IfErr result (λ back. back.plans.items ≡ plans.items) }
     {
-        let Ok(words) = OpenWords::open(alloc, 1 + SLOTS * plans.len()) else {
+        let Ok(words) = OpenWords::open(alloc, slots_of(plans.len())) else {
             return Err(Unopened::for_memory(plans));
         };
         let Ok(inboxes) = open_inboxes(alloc, plans.len()) else {
@@ -266,7 +266,7 @@ impl<J: Drop, S: Drop> Parts<J, S> {
         })
     }
 
-    /// The same, where so many supervisors are there at first, and others can be added ([`add_tree`](crate::add_tree)).
+    /// Opens the tree with so many supervisors at first; to the other places some can be added ([`add_tree`](crate::add_tree)).
     pub fn named_growing<N: TreeNaming>(
         self,
         alloc: Global,
@@ -318,7 +318,7 @@ impl<J: Drop, S: Drop> Parts<J, S> {
     }
 }
 
-/// The same tree, to which supervisors can be added.
+/// This tree, once supervisors can be added to it.
 fn growing<N: SupNaming, J: Drop, S: Drop>(
     system: System<N, J, S>,
     growth: Growth<N>,

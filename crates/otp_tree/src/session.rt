@@ -147,7 +147,7 @@ pub fn with_growing_system<R, J: Drop, S: Drop, T: Session<R, J, S>>(
     }
 }
 
-/// The same with the plans of spare places behind the others. Where the tree isn't opened all come back.
+/// Runs a session with a tree whose last plans are of spare places. Where the tree isn't opened all plans come back.
 fn run_padded<R, J: Drop, S: Drop, T: Session<R, J, S>>(
     rt: &R,
     alloc: Global,

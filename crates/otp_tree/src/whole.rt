@@ -157,9 +157,9 @@ where
     run_half(rt, alloc, system, hands, gate, turns, turns, passes);
 }
 
-/// The whole life of a tree of 1 to 64 supervisors, the root first, in one call: each of 1 to 8 hands makes so many turns
-/// in a thread of its own, then the root is asked to stop, each hand makes as many turns again, and the tree is closed.
-/// Out comes the report of what it was, with the counts of each supervisor before the stop.
+/// The whole life of a tree of 1 to 64 supervisors, the root first, in one call. Each of 1 to 8 hands makes so many turns in a
+/// thread of its own; then the root is asked to stop, each hand makes as many turns again, and the tree is closed. Out comes the
+/// report of what it was, with the counts of each supervisor before the stop.
 ///
 /// The counts are read without a lock, by a pass for each supervisor, while no hand makes a turn. The gate is told how far the
 /// run is each 50,000 turns ([`Gate::saw`]).
@@ -266,7 +266,7 @@ where
     }
 }
 
-/// The same without the counts.
+/// Does what [`run_tree_counted`] does, and leaves the counts out.
 pub fn run_tree<R, J, S, G>(
     rt: &R,
     alloc: Global,

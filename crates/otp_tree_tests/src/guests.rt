@@ -57,7 +57,7 @@ pub(crate) struct Shared {
 /// others no longer wait for it.
 pub(crate) const TOO_OFTEN: u64 = 10;
 
-/// The same for each of them.
+/// What the jobs and the watchers of a test share, for each of them.
 pub(crate) type Common = Arc<Shared>;
 
 pub(crate) fn common(rt: &impl Abort, alloc: Global) -> Common {

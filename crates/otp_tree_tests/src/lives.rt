@@ -396,7 +396,7 @@ fn a_refused_table_is_told_by_its_number(rt: HostRuntime) {
     same(&rt, "the fault", fault, wanted);
     let sizes = (2, 2, 1);
     same(&rt, "the plans", sizes_of(plans.as_slice()), sizes);
-    // The same of a tree that is run in one call.
+    // A tree that is run in one call is refused so, too.
     may_run(&rt, plans.as_slice(), 2);
     match run_tree(&rt, rt.alloc(), plans, 2, &clock, 1) {
         Err(RunFault::Open(back)) => {

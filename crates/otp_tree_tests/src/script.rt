@@ -28,11 +28,11 @@ pub(crate) enum Step {
     Crash,
     /// Calls the supervisor of this number, and serves until the answer is there.
     Ask(usize, Question),
-    /// The same, but without a turn: so no answer comes.
+    /// Calls the supervisor of this number, and serves no turn: so no answer comes.
     AskLate(usize, Question),
     /// Looks again for the answer that came last.
     AskAgain,
-    /// From here on it is counted what is written down of turns.
+    /// From here on what is written down of turns is counted.
     Mark,
     /// Writes down how many turns the workers had.
     Count,

@@ -26,7 +26,7 @@ line_same : (tells : Bool) (time : ℕ) (path : List ℕ) (starts : List Started
     → line_if tells time path starts kept e ≡ line_if tells time path starts all e
 unfolding line_if told_line
 line_same tells time path starts all kept e h =
-    ap (λ (text : List ℕ). if is_told tells e then time_text time ++ codes "  " ++ text else []) (order_same path starts all kept e h)
+    ap (λ (text : List ℕ). if is_told tells path e then time_text time ++ codes "  " ++ text else []) (order_same path starts all kept e h)
 
 pub lines_same : (tells : Bool) (time : ℕ) (path : List ℕ) (starts : List Started) (all kept : List Answered) (orders : List Effect)
     → All (IsKeptIn all kept) orders → told_lines tells time path starts kept orders ≡ told_lines tells time path starts all orders

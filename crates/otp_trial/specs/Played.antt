@@ -62,7 +62,7 @@ fresh p = record p { history = []; strain = unstrained }
 
 -- how it bears up after an event
 abbrev pub strain_with : Event → Seated → Strain
-strain_with e p = strained_by p.base.flags p.strain e.reading (step (state_in p) e)
+strain_with e p = strained_by p.base.flags p.strain e.reading e.kind (step (state_in p) e)
 
 -- the supervisor after an event
 abbrev pub seat_with : Event → Seated → Seated

@@ -12,7 +12,7 @@ pub mod steps;
 pub mod trial;
 
 pub use clock::Clock;
-pub use otp_telling::{Started, Strain, starts, strain, telling, time};
+pub use otp_telling::{Course, Started, Strain, starts, strain, telling, time};
 pub use otp_world::{Hang, Plan, finding, world};
 pub use planting::plant_seats;
 pub use seat::Seat;

@@ -126,7 +126,7 @@ pub fn plant_seats(alloc: Global, tree: &TreeSpec) -> Result<Vec<Seat>, Halt>
     Ok(seats)
 }
 
-/// The same supervisors as at the beginning of a run.
+/// These supervisors as at the beginning of a run.
 pub(crate) fn fresh_seats(alloc: Global, seats: &[Seat]) -> Result<Vec<Seat>, Halt>
     ensures { IfOk result (λ anew. anew.items ≡ map fresh seats.now) }
 {

@@ -1,6 +1,6 @@
 //! A supervisor of a tree that is tried.
 
-ghost use Rattle.std.specs.Prelude.{◌≡◌, ◌≤◌, [], false, length, nat_lt, IfOk, OnOk};
+ghost use Rattle.std.specs.Prelude.{◌≡◌, ◌≤◌, [], false, is_some, length, nat_lt, IfOk, OnOk};
 ghost use Rattle.otp_core.specs.View.{new_core, state_of};
 ghost use Rattle.otp_rules.specs.Ends.{last_stamps};
 ghost use Rattle.otp_rules.specs.Next.{idle_kind, next_kind};
@@ -63,11 +63,11 @@ fn core_of(alloc: Global, supervisor: &SupSpec) -> Result<Core, Halt>
     Ok(Core::of(alloc, supervisor.try_clone(alloc)?))
 }
 
-/// How a supervisor with these flags bears up whose core has done this at this time.
-fn strain_after(strain: Strain, time: u64, flags: SupFlags, core: &Core) -> Strain
-    ensures { result ≡ strained strain time flags (last_stamps (state_of core.now).flags.intensity (state_of core.now).stamps) core.now.effects }
+/// How a supervisor with these flags bears up whose core has done this at an event of this kind at this time.
+fn strain_after(strain: Strain, time: u64, kind: &Kind, flags: SupFlags, core: &Core) -> Strain
+    ensures { result ≡ strained strain time kind.now flags (last_stamps (state_of core.now).flags.intensity (state_of core.now).stamps) core.now.effects }
 {
-    strain.strained(time, &flags, core.kept_restarts(), core.effects())
+    strain.strained(time, kind, &flags, core.kept_restarts(), core.effects())
 }
 
 impl Seat {
@@ -98,7 +98,7 @@ impl Seat {
         })
     }
 
-    /// The same supervisor as at the beginning of a run.
+    /// This supervisor as at the beginning of a run.
     pub(crate) fn fresh(&self, alloc: Global) -> Result<Self, Halt>
         ensures { IfOk result (λ seat. seat ≡ fresh self.now) }
     {
@@ -147,7 +147,13 @@ impl Seat {
         };
         tell(&scene, &self.core, printer, out)?;
         put_starts(self.core.effects(), &mut self.starts)?;
-        self.strain = strain_after(self.strain, time, self.supervisor.flags(), &self.core);
+        self.strain = strain_after(
+            self.strain,
+            time,
+            &kind,
+            self.supervisor.flags(),
+            &self.core,
+        );
         self.is_whole = true;
         Ok(after)
     }
@@ -245,6 +251,13 @@ impl Seat {
         ensures { result ≡ has_end_waiting self.now process }
     {
         self.core.has_exit_waiting(process)
+    }
+
+    /// Whether children are being stopped or started.
+    pub fn has_open_work(&self) -> bool
+        ensures { result ≡ is_some (state_in self.now).follows }
+    {
+        self.core.has_open_work()
     }
 
     /// Whether something waits until no work is open.

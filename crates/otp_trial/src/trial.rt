@@ -184,7 +184,7 @@ impl Trial {
         }
     }
 
-    /// The same tree from the beginning on: its root is opened, and its children have started as far as they do.
+    /// This tree from the beginning on: its root is opened, and its children have started as far as they do.
     ///
     /// # Errors
     ///
@@ -292,6 +292,11 @@ impl Trial {
         ensures { self.new ≡ self.old }
     {
         self.world.begin_line(line);
+    }
+
+    /// By which clock it is played.
+    pub fn clock(&self) -> Clock {
+        self.clock
     }
 
     /// The time since the beginning, in milliseconds.

@@ -1,5 +1,5 @@
 -- The words of an order as it is told: `1.500 s  start pool/a #3`, or `1.500 s  pool/ end shutdown: ..` (own).
-use Rattle.std.specs.Prelude.{ℕ, ◌+◌, ◌^◌, ◌-◌, ◌==◌, Bool, ◌||◌, List, [], Option, Some, None, codes, drop, length, nat_le, position, take, if◌then◌else◌}
+use Rattle.std.specs.Prelude.{ℕ, ◌+◌, ◌^◌, ◌-◌, ◌==◌, Bool, not, ◌&&◌, ◌||◌, List, [], Option, Some, None, codes, drop, length, nat_le, position, take, if◌then◌else◌}
 use Rattle.std.specs.List.{list_any}
 use Rattle.std.specs.Str.{bytes_eq}
 use Rattle.otp_text.specs.Words.{number_up_to}
@@ -47,6 +47,10 @@ is_child_verb verb = bytes_eq verb (codes "start") || bytes_eq verb (codes "ask"
 unfoldable pub number_in : List ℕ → Option ℕ
 number_in word = number_up_to (2 ^ 64 - 1) (without_front 1 word)
 
--- a line that tells the end of a supervisor
+-- an order of a supervisor below the root, which ends since its parent asked for it
+unfoldable pub is_bystander : List ℕ → Bool
+is_bystander order = has_slash (first_word order) && bytes_eq (own_part order) (codes "end shutdown: asked to stop")
+
+-- a line that tells the end of a supervisor, unless its parent asked for it
 unfoldable pub is_end : List ℕ → Bool
-is_end line = bytes_eq (first_word (own_part (order_in line))) (codes "end")
+is_end line = bytes_eq (first_word (own_part (order_in line))) (codes "end") && not (is_bystander (order_in line))

@@ -1,5 +1,5 @@
 -- A run of a script, as a page (own).
-use Rattle.std.specs.Prelude.{ℕ, ◌-◌, ◌^◌, ◌==◌, List, [], ◌∷◌, ◌++◌, codes, decimal, if◌then◌else◌}
+use Rattle.std.specs.Prelude.{◌≡◌, Bool, true, ℕ, ◌-◌, ◌^◌, ◌==◌, List, [], ◌∷◌, ◌++◌, codes, decimal, if◌then◌else◌}
 use Rattle.std.specs.List.{flat_map}
 use Rattle.otp_account.specs.declared.account.Account.{Account}
 use Rattle.otp_account.specs.declared.account.Played.{Played}
@@ -15,7 +15,10 @@ use Rattle.otp_trial.specs.Taken.{taken_text}
 use Rattle.otp_telling.specs.declared.strain.Strain.{Strain}
 use Rattle.otp_trial.specs.declared.trial.ActionEnd.{ActionEnd}
 use Rattle.otp_trial.specs.declared.trial.ActionEnd.TheVariants as taken
+use Rattle.otp_remarks.specs.Verdict.{whole_verdict}
+use Rattle.otp_trial.specs.declared.clock.Clock.{Clock}
 use Rattle.otp_tried.specs.Cells.{cells_html, greatest}
+use Rattle.otp_tried.specs.Objects.{is_played}
 use Rattle.otp_tried.specs.Orders.{is_end}
 
 -- how a supervisor restarts its children, with which the title of its column ends
@@ -88,10 +91,26 @@ rows_html last seats (one ∷ lines) = row_html last seats one ++ rows_html (gre
 unfoldable pub timeline_legend : List ℕ
 timeline_legend = codes "<p class=\"legend\">A row for each line of the script: how all stood after it. <span class=\"up\">#N</span>: the child runs as process N; <b class=\"new\">*</b> it was started since the row before. <span class=\"way\">It is on its way</span>, <span class=\"down\">it has no process</span>. N/M restarts: N of M lie in the period.</p>\n"
 
--- the page of a run of these supervisors, whose tree file has this name. At the opening none is marked as new.
-unfoldable pub timeline_page : List ℕ → List Seated → Account → List ℕ
-timeline_page name seats account =
-    head_text (codes "A run of") name ++ timeline_legend ++ titles_html seats
+-- a line of a verdict
+unfoldable pub verdict_line : List ℕ → List ℕ
+verdict_line line = element (codes "<p class=\"verdict\">") line (codes "</p>\n")
+
+-- the lines of a verdict, the first of which has begun so
+abbrev pub verdict_from : List ℕ → List ℕ → List ℕ
+verdict_from line [] = []
+verdict_from line (byte ∷ bytes) =
+    if byte == 10 then verdict_line line ++ verdict_from [] bytes else verdict_from (line ++ byte ∷ []) bytes
+
+-- the page of a run of these supervisors with this verdict, whose tree file has this name. At the opening none is marked as new.
+unfoldable pub timeline_page : List ℕ → List Seated → Account → List ℕ → List ℕ
+timeline_page name seats account verdict =
+    head_text (codes "A run of") name ++ verdict_from [] verdict ++ timeline_legend ++ titles_html seats
     ++ row_html (2 ^ 64 - 1) seats account.opening
     ++ rows_html (greatest account.opening.moment) seats account.lines.items
     ++ sums_row seats ++ foot_text
+
+-- a page tells a run so; the root has a process
+abbrev pub TellsPage : List ℕ → Account → List ℕ → Type 0
+TellsPage name account page =
+    (by : Clock) × ((others : List Bool)
+    × (page ≡ timeline_page name account.trial account (whole_verdict (is_played account.end) by account.trial (true ∷ others))))

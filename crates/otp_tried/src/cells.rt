@@ -34,7 +34,7 @@ fn greatest_of(most: u64, marks: &[Mark]) -> u64
     most
 }
 
-/// The same of the children of these supervisors.
+/// The greatest number that a process of these supervisors' children has, or this one.
 fn greatest_in(most: u64, standings: &[Standing]) -> u64
     ensures { result ≡ greatest_in most standings.now }
 {

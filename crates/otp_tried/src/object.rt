@@ -1,10 +1,10 @@
 //! A run as an object.
 
 ghost use Rattle.std.specs.Prelude.{◌≡◌, ℕ, List, ◌++◌, IfOk, OnErr, OnOk, true};
-ghost use Rattle.otp_tried.specs.Objects.{TellsRun, end_line, end_members, end_word, line_object, lines_text, result_text, run_text};
+ghost use Rattle.otp_tried.specs.Objects.{TellsRun, end_line, end_members, end_why, end_word, is_played, line_object, lines_text, result_text, run_text};
 
 use crate::order::{put_comma, put_orders};
-use crate::supervisors::put_supervisors;
+use crate::supervisors::{put_supervisors, put_text_if};
 use otp_account::{Account, Played};
 use otp_json::{put_key, put_number, put_optional, put_text};
 use otp_trial::{ActionEnd, Seat};
@@ -53,6 +53,14 @@ fn put_lines(lines: &[Played], word: &mut Vec<u8>, out: &mut Vec<u8>) -> Result<
     Ok(())
 }
 
+/// Whether something was played in a run that ended so.
+#[tactic(auto, unfolding(crate::specs::Objects::is_played))]
+pub(crate) fn is_played(end: TryEnd) -> bool
+    ensures { result ≡ is_played end }
+{
+    !matches!(end, TryEnd::NothingPlayed)
+}
+
 /// How a run ended, in a word.
 #[tactic(auto, unfolding(crate::specs::Objects::end_word))]
 fn end_word(end: TryEnd) -> &'static [u8]
@@ -62,7 +70,8 @@ fn end_word(end: TryEnd) -> &'static [u8]
         TryEnd::Done => b"done",
         TryEnd::ExpectationFailed(_) => b"unmet",
         TryEnd::LineRefused(..) => b"refused",
-        TryEnd::LineMissed(..) => b"missed",
+        TryEnd::LineMissed(..) | TryEnd::LeftOut(..) => b"missed",
+        TryEnd::NothingPlayed => b"nothing",
         TryEnd::HistoryFull | TryEnd::InputFailed | TryEnd::OutputFailed | TryEnd::OutOfMemory =>
             b"stopped",
     }
@@ -76,12 +85,31 @@ fn end_line(end: TryEnd) -> Option<u64>
     match end {
         TryEnd::ExpectationFailed(line) => Some(line),
         TryEnd::LineRefused(line, _) => Some(line),
-        TryEnd::LineMissed(line, _) => Some(line),
+        TryEnd::LineMissed(line, _) | TryEnd::LeftOut(line, _) => Some(line),
         TryEnd::Done
+        | TryEnd::NothingPlayed
         | TryEnd::HistoryFull
         | TryEnd::InputFailed
         | TryEnd::OutputFailed
         | TryEnd::OutOfMemory => None,
+    }
+}
+
+/// Why a run ended so at a line, in words; nothing where it did not.
+#[tactic(auto, unfolding(crate::specs::Objects::end_why))]
+fn end_why(end: TryEnd) -> &'static str
+    ensures { result.now ≡ end_why end }
+{
+    match end {
+        TryEnd::ExpectationFailed(_) => ActionEnd::Unmet.text(),
+        TryEnd::LineRefused(_, why) => why.text(),
+        TryEnd::LineMissed(_, why) | TryEnd::LeftOut(_, why) => why.text(),
+        TryEnd::NothingPlayed => "no line says what happens",
+        TryEnd::Done
+        | TryEnd::HistoryFull
+        | TryEnd::InputFailed
+        | TryEnd::OutputFailed
+        | TryEnd::OutOfMemory => "",
     }
 }
 
@@ -92,6 +120,7 @@ fn put_end(end: TryEnd, out: &mut Vec<u8>) -> Result<(), AllocError>
 {
     put_text(b"], ", b"end", end_word(end), out)?;
     put_optional(b", ", b"at", end_line(end), out)?;
+    put_text_if(b"why", end_why(end).as_bytes(), out)?;
     out.extend_from_slice(b"}\n")
 }
 
@@ -115,7 +144,7 @@ fn put_run(
     put_lines(account.lines.as_slice(), word, out)?;
     put_key(b"], ", b"supervisors", out)?;
     out.extend_from_slice(b"[")?;
-    put_supervisors(b"", seats, running, out)?;
+    put_supervisors(is_played(account.end), true, b"", seats, running, word, out)?;
     put_end(account.end, out)
 }
 

@@ -1,26 +1,37 @@
 //! A run as a page.
 
-ghost use Rattle.std.specs.Prelude.{◌≡◌, ◌++◌, IfOk, OnErr, OnOk, decimal};
+ghost use Rattle.std.specs.Prelude.{ℕ, List, ◌≡◌, ◌++◌, IfOk, OnErr, OnOk, decimal};
 ghost use Rattle.otp_timeline.specs.Seconds.{seconds_text};
-ghost use Rattle.otp_tried.specs.Orders.{is_end};
-ghost use Rattle.otp_tried.specs.Timeline.{end_if, ends_from, failed_html, line_cell, number_text, row_html, rows_html, time_cell, timeline_legend, timeline_page};
+ghost use Rattle.otp_tried.specs.Orders.{is_bystander, is_end};
+ghost use Rattle.otp_tried.specs.Timeline.{TellsPage, end_if, ends_from, failed_html, line_cell, number_text, row_html, rows_html, time_cell, timeline_legend, timeline_page, verdict_from, verdict_line};
 
 use crate::cells::{greatest, put_cells};
 use crate::columns::{put_sums, put_titles};
-use crate::words::{first_word, is_text, order_in, own_part};
+use crate::object::is_played;
+use crate::words::{first_word, has_slash, is_text, order_in, own_part};
 use otp_account::{Account, Played};
 use otp_html::{put_element, put_foot, put_head};
+use otp_remarks::write_trial_verdict;
 use otp_text::write_number;
 use otp_timeline::write_seconds;
 use otp_trial::{ActionEnd, Seat};
 use std::alloc::{AllocError, Global};
 
-/// Whether a line tells the end of a supervisor.
+/// Whether an order is that of a supervisor below the root which ends since its parent asked for it.
+#[tactic(auto, unfolding(crate::specs::Orders::is_bystander))]
+fn is_bystander(order: &[u8]) -> bool
+    ensures { result ≡ is_bystander order.now }
+{
+    has_slash(first_word(order)) && is_text(own_part(order), b"end shutdown: asked to stop")
+}
+
+/// Whether a line tells the end of a supervisor, unless its parent asked for it.
 #[tactic(auto, unfolding(crate::specs::Orders::is_end))]
 fn is_end(line: &[u8]) -> bool
     ensures { result ≡ is_end line.now }
 {
-    is_text(first_word(own_part(order_in(line))), b"end")
+    let order = order_in(line);
+    is_text(first_word(own_part(order)), b"end") && !is_bystander(order)
 }
 
 /// Appends a line that tells the end of a supervisor; nothing of another.
@@ -172,18 +183,44 @@ fn put_legend(out: &mut Vec<u8>) -> Result<(), AllocError>
     )
 }
 
-/// Appends the page of a run, whose tree file has this name. The word is a place for a text.
+/// Appends a line of a verdict.
+#[tactic(auto, unfolding(crate::specs::Timeline::verdict_line))]
+fn put_verdict_line(line: &[u8], out: &mut Vec<u8>) -> Result<(), AllocError>
+    ensures { OnOk result (out.new.items ≡ out.old.items ++ verdict_line line.now) }
+{
+    put_element(b"<p class=\"verdict\">", line, b"</p>\n", out)
+}
+
+/// Appends the lines of a verdict, the first of which has begun so.
+fn put_verdict(verdict: &[u8], line: &mut Vec<u8>, out: &mut Vec<u8>) -> Result<(), AllocError>
+    ensures { OnOk result (out.new.items ≡ out.old.items ++ verdict_from line.old.items verdict.now) }
+{
+    for byte in verdict {
+        if *byte == b'\n' {
+            put_verdict_line(line.as_slice(), out)?;
+            line.clear();
+        } else {
+            line.push(*byte).map_err(|_| AllocError)?;
+        }
+    }
+    Ok(())
+}
+
+/// Appends the page of a run with this verdict, whose tree file has this name. The word is a place for a text.
 #[tactic(auto, unfolding(crate::specs::Timeline::timeline_page))]
 fn put_page(
     name: &[u8],
     seats: &[Seat],
     account: &Account,
+    verdict: &[u8],
     word: &mut Vec<u8>,
     out: &mut Vec<u8>,
 ) -> Result<(), AllocError>
-    ensures { OnOk result (out.new.items ≡ out.old.items ++ timeline_page name.now seats.now account.now) }
+    ensures { OnOk result (out.new.items ≡ out.old.items ++ timeline_page name.now seats.now account.now verdict.now) }
 {
+    word.clear();
     put_head(b"A run of", name, out)?;
+    put_verdict(verdict, word, out)?;
     put_legend(out)?;
     put_titles(seats, out)?;
     put_row(u64::MAX, seats, &account.opening, word, out)?;
@@ -200,15 +237,24 @@ fn put_page(
 
 /// The page of a run, whose tree file has this name.
 fn page_of(alloc: Global, name: &[u8], account: &Account) -> Result<Vec<u8>, AllocError>
-    ensures { IfOk result (λ page. page.items ≡ timeline_page name.now account.now.trial account.now) }
+    ensures { IfOk result (λ page. TellsPage name.now account.now page.items) }
 {
     let mut word = Vec::new(alloc);
+    let mut verdict = Vec::new(alloc);
     let mut page = Vec::new(alloc);
-    put_page(name, account.trial.seats(), account, &mut word, &mut page)?;
+    write_trial_verdict(&account.trial, is_played(account.end), &mut verdict)?;
+    put_page(
+        name,
+        account.trial.seats(),
+        account,
+        verdict.as_slice(),
+        &mut word,
+        &mut page,
+    )?;
     Ok(page)
 }
 
-/// Appends a run of a script as a page of HTML, with the name of the tree's file: a row for the opening and for each line, with how
+/// Appends a run of a script as a page of HTML, with the name of the tree's file: the verdict; a row for the opening and for each line, with how
 /// each supervisor and its children stood then, and the ends of supervisors; and how each came through.
 ///
 /// # Errors
@@ -220,7 +266,7 @@ pub fn write_timeline_page(
     account: &Account,
     out: &mut Vec<u8>,
 ) -> Result<(), AllocError>
-    ensures page { OnOk result (out.new.items ≡ out.old.items ++ timeline_page name.now account.now.trial account.now) }
+    ensures page { OnOk result ((page : List ℕ) × (TellsPage name.now account.now page × (out.new.items ≡ out.old.items ++ page))) }
     ensures same { OnErr result (out.new.items ≡ out.old.items) }
 {
     let page = page_of(alloc, name, account)?;

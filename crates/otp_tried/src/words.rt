@@ -44,7 +44,7 @@ pub(crate) fn first_word(text: &[u8]) -> &[u8]
     before(first_space(text), text)
 }
 
-/// What stands behind that.
+/// What stands behind the word at the beginning of a text.
 #[tactic(auto, unfolding(crate::specs::Orders::rest_of))]
 pub(crate) fn rest_of(text: &[u8]) -> &[u8]
     ensures { result.now ≡ rest_of text.now }
@@ -74,7 +74,7 @@ pub(crate) fn order_in(line: &[u8]) -> &[u8]
 
 /// Whether a `/` stands in a word, as in the path of a supervisor.
 #[tactic(auto, unfolding(crate::specs::Orders::has_slash))]
-fn has_slash(word: &[u8]) -> bool
+pub(crate) fn has_slash(word: &[u8]) -> bool
     ensures { result ≡ has_slash word.now }
 {
     word.iter().any(|byte| *byte == b'/')
@@ -89,7 +89,7 @@ pub(crate) fn path_part(order: &[u8]) -> &[u8]
     if has_slash(word) { word } else { &[] }
 }
 
-/// The order behind that.
+/// An order without the path in front of it.
 #[tactic(auto, unfolding(crate::specs::Orders::own_part))]
 pub(crate) fn own_part(order: &[u8]) -> &[u8]
     ensures { result.now ≡ own_part order.now }

@@ -11,7 +11,7 @@ use Rattle.otp_try.specs.Page.{Adds, Piece, Remark, pieces_text, remark_text}
 use Rattle.otp_remarks.specs.Summaries.{IsSummary}
 use Rattle.otp_remarks.specs.Sketched.{drawing}
 use Rattle.otp_try.specs.Page.Remark.{Picture, Status, Summary}
-use Rattle.otp_try.specs.Pages.{AddsTo, Closing, Concluded, Ended, IsHalt, Played, Ran, StopsSo, SumsUp, Unopened, WritesOut, Wrote, WrotePart, end_of}
+use Rattle.otp_try.specs.Pages.{AddsTo, Closing, Concluded, Ended, IsHalt, IsWhole, Played, Ran, StopsSo, SumsUp, Unopened, WritesOut, Wrote, WrotePart, end_of}
 use Rattle.otp_trial.specs.Played.{IsPlanted, Seated, TellsFirst}
 use Rattle.otp_remarks.specs.Prompt.{standings_text}
 use Rattle.otp_try.specs.declared.early.EarlyEnd.{EarlyEnd}
@@ -265,6 +265,8 @@ pub ended-then : (end : TryEnd) (a b : List Seated) (p q : List ℕ) (x y z : Op
     → Ended end a p x z
 ended-then try.Done a b p q x y z first second = concluded-then a b p q x y z first second
 ended-then (try.ExpectationFailed _) a b p q x y z first second = concluded-then a b p q x y z first second
+ended-then (try.LeftOut _ _) a b p q x y z first second = concluded-then a b p q x y z first second
+ended-then try.NothingPlayed a b p q x y z first second = concluded-then a b p q x y z first second
 ended-then (try.LineRefused _ _) a b p q x y z first second = some_then a b p q [] x y z first second
 ended-then (try.LineMissed _ _) a b p q x y z first second = some_then a b p q [] x y z first second
 ended-then try.HistoryFull a b p q x y z first second = some_then a b p q [] x y z first second
@@ -300,8 +302,8 @@ closing a x y summary sums put = record { middle = x; adds = adds_nothing a a x 
 -- a summary is a remark
 summary_adds : (a : List Seated) (x y summary : List ℕ) → IsSummary a summary → y ≡ x ++ summary → Adds a a x y
 unfolding remark_text
-summary_adds a x y summary (is_quiet, now, others, plans, hanging, is) put =
-    adds_remark a a x y (Summary is_quiet now (true ∷ others) plans hanging) refl (put ∙ ap (λ (t : List ℕ). x ++ t) is)
+summary_adds a x y summary (is_quiet, is_played, by, now, others, plans, hanging, is) put =
+    adds_remark a a x y (Summary is_quiet is_played by now (true ∷ others) plans hanging) refl (put ∙ ap (λ (t : List ℕ). x ++ t) is)
 
 pub closing_adds : (a : List Seated) (x y : List ℕ) → Closing a x y → Adds a a x y
 closing_adds a x y closed =
@@ -337,11 +339,26 @@ concludes_all a b p q r x y z wrote closed appended =
           ∙ ap (λ (t : List ℕ). t ++ closed.summary) all.text;
     }
 
+-- all of the rest was written
+pub writes_whole : (end : TryEnd) (text : List ℕ) (before now : Option (List ℕ)) → IsWhole end → Appends before now text → WritesOut end text before now
+writes_whole try.Done text before now whole appended = appended
+writes_whole (try.ExpectationFailed _) text before now whole appended = appended
+writes_whole (try.LeftOut _ _) text before now whole appended = appended
+writes_whole try.NothingPlayed text before now whole appended = appended
+writes_whole (try.LineRefused _ _) text before now whole appended = elim whole [ ]
+writes_whole (try.LineMissed _ _) text before now whole appended = elim whole [ ]
+writes_whole try.HistoryFull text before now whole appended = elim whole [ ]
+writes_whole try.InputFailed text before now whole appended = elim whole [ ]
+writes_whole try.OutputFailed text before now whole appended = elim whole [ ]
+writes_whole try.OutOfMemory text before now whole appended = elim whole [ ]
+
 -- all lines were played, and the rest is written
 pub concludes : (end : TryEnd) (a b : List Seated) (p q r : List ℕ) (x y z : Option (List ℕ)) → Wrote a b p q x y → Closing b q r
     → WritesOut end r y z → Ended end a p x z
 concludes try.Done a b p q r x y z wrote closed appended = concludes_all a b p q r x y z wrote closed appended
 concludes (try.ExpectationFailed _) a b p q r x y z wrote closed appended = concludes_all a b p q r x y z wrote closed appended
+concludes (try.LeftOut _ _) a b p q r x y z wrote closed appended = concludes_all a b p q r x y z wrote closed appended
+concludes try.NothingPlayed a b p q r x y z wrote closed appended = concludes_all a b p q r x y z wrote closed appended
 concludes try.OutputFailed a b p q r x y z wrote closed part =
     let all : Wrote a b p r x y = wrote-then a b b p q r x y y wrote (wrote_adds b b q r y (closing_adds b q r closed)) in
     part-then a b p r x y z all (part_page b r r y z refl part)

@@ -2,7 +2,7 @@
 -- them (own).
 use Rattle.std.specs.Prelude.{◌≡◌, ℕ, Bool, true, false, Option, List, [], ◌∷◌, ◌++◌, codes, map, slice_set}
 use Rattle.otp_timeline.specs.declared.moment.Moment.{Moment}
-use Rattle.otp_remarks.specs.Lines.{heading_line, known_text, unmet_text}
+use Rattle.otp_remarks.specs.Lines.{heading_line, known_text, left_out_text, unmet_text}
 use Rattle.otp_trial.specs.Played.{IsAt, Lead, Move, Seated, fresh, move_text, seat_after}
 use Rattle.otp_remarks.specs.Prompt.{prompt_text, standings_text}
 use Rattle.otp_remarks.specs.Sketched.{drawing}
@@ -13,6 +13,7 @@ use Rattle.otp_remarks.specs.Texts.{farewell_text, help_text, legend_text, welco
 use Rattle.otp_try.specs.declared.play.Writer.{Writer}
 use Rattle.otp_try.specs.declared.play.Writer.TheVariants as writer
 use Rattle.otp_script.specs.declared.fault.ScriptFault.{ScriptFault}
+use Rattle.otp_trial.specs.declared.clock.Clock.{Clock}
 use Rattle.otp_trial.specs.declared.trial.ActionEnd.{ActionEnd}
 use Rattle.otp_trial.specs.declared.trial.ActionEnd.TheVariants as taken
 use Rattle.otp_world.specs.declared.plans.Hang.{Hang}
@@ -36,22 +37,23 @@ pub data Remark : Type 0 where
   Status : ℕ → List Bool → Remark
   -- where the input ends: the end of the line of the prompt
   Farewell : Remark
-  -- at the end: how the supervisors stand at this time, of which these have a process, and the plans of which nothing came,
-  -- and then the verdict; or that alone
-  Summary : Bool → ℕ → List Bool → List Plan → List Hang → Remark
+  -- at the end: how the supervisors stand at this time by this clock, of which these have a process, and the plans of which nothing
+  -- came, and then the verdict; or that alone
+  Summary : Bool → Bool → Clock → ℕ → List Bool → List Plan → List Hang → Remark
   -- how these supervisors stood at these moments
   Picture : Bool → List Seated → List Moment → Remark
 
--- a sentence for a person; a script ends with it
-unfoldable pub reply_text : Writer → List ℕ → List ℕ
-reply_text writer.Script text = []
-reply_text writer.Person text = text ++ codes "\n"
+-- a sentence for a person, and for who reads what came of a log also of which line; a script ends with it
+unfoldable pub reply_text : Writer → ℕ → List ℕ → List ℕ
+reply_text writer.Script number text = []
+reply_text writer.Person number text = text ++ codes "\n"
+reply_text writer.Log number text = left_out_text number text
 
 -- what is told behind what a line did
 unfoldable pub verdict_text : Writer → ℕ → List ℕ → Bool → ActionEnd → List ℕ
 verdict_text writer number line is_unknown taken.Done = known_text number is_unknown
 verdict_text writer number line is_unknown taken.Unmet = unmet_text number line
-verdict_text writer number line is_unknown why = reply_text writer (taken_text why)
+verdict_text writer number line is_unknown why = reply_text writer number (taken_text why)
 
 -- a text, if it is shown
 unfoldable pub shown : Bool → List ℕ → List ℕ
@@ -73,7 +75,7 @@ remark_text (Verdict is_told writer number line is_unknown taken) seats = shown 
 remark_text (Prompt now next waits) seats = prompt_text seats now next waits
 remark_text (Status now running) seats = standings_text now seats running
 remark_text Farewell seats = farewell_text
-remark_text (Summary is_quiet now running plans hanging) seats = summary_text is_quiet now seats running plans hanging
+remark_text (Summary is_quiet is_played by now running plans hanging) seats = summary_text is_quiet is_played by now seats running plans hanging
 remark_text (Picture is_coloured drawn moments) seats = drawing is_coloured drawn moments
 
 -- what comes next of a run: a move, or something is said; or a person wants lines undone: the tree stands as at the beginning of

@@ -10,7 +10,7 @@ use Rattle.otp_trial.specs.Played.{IsPlanted, Seated, TellsFirst}
 use Rattle.otp_try.specs.declared.early.EarlyEnd.{EarlyEnd}
 use Rattle.otp_try.specs.declared.early.EarlyEnd.TheVariants as early
 use Rattle.otp_try.specs.declared.play.TryEnd.{TryEnd}
-use Rattle.otp_try.specs.declared.play.TryEnd.TheVariants.{Done, LineRefused, LineMissed, ExpectationFailed, HistoryFull, InputFailed, OutputFailed, OutOfMemory}
+use Rattle.otp_try.specs.declared.play.TryEnd.TheVariants.{Done, LineRefused, LineMissed, ExpectationFailed, LeftOut, NothingPlayed, HistoryFull, InputFailed, OutputFailed, OutOfMemory}
 use Rattle.otp_try.specs.declared.play.Writer.{Writer}
 use Rattle.otp_try.specs.declared.play.Writer.TheVariants as writer
 use Rattle.otp_try.specs.declared.settings.Shows.{Shows}
@@ -67,10 +67,20 @@ abbrev pub SumsUp : {T E : Type 0} → Result T E → List Seated → List ℕ �
 SumsUp (Ok _) seats before after = Closing seats before after
 SumsUp (Err _) seats before after = (stood : List Seated) × Adds seats stood before after
 
+-- so a run ends that was played to its end
+abbrev pub IsWhole : TryEnd → Type 0
+IsWhole Done = Unit {0}
+IsWhole (ExpectationFailed _) = Unit {0}
+IsWhole (LeftOut _ _) = Unit {0}
+IsWhole NothingPlayed = Unit {0}
+IsWhole _ = ⊥
+
 -- the last of a run that was played to its end was written, or a beginning of it
 abbrev pub WritesOut : TryEnd → List ℕ → Option (List ℕ) → Option (List ℕ) → Type 0
 WritesOut Done text before now = Appends before now text
 WritesOut (ExpectationFailed _) text before now = Appends before now text
+WritesOut (LeftOut _ _) text before now = Appends before now text
+WritesOut NothingPlayed text before now = Appends before now text
 WritesOut OutputFailed text before now = AppendsPart before now text
 WritesOut _ text before now = ⊥
 
@@ -89,6 +99,8 @@ pub record Concluded (old : List Seated) (page : List ℕ) (before now : Option 
 abbrev pub Ended : TryEnd → List Seated → List ℕ → Option (List ℕ) → Option (List ℕ) → Type 0
 Ended Done old page before now = Concluded old page before now
 Ended (ExpectationFailed _) old page before now = Concluded old page before now
+Ended (LeftOut _ _) old page before now = Concluded old page before now
+Ended NothingPlayed old page before now = Concluded old page before now
 Ended OutputFailed old page before now = WrotePart old page before now
 Ended _ old page before now = (stood : List Seated) × Wrote old stood page [] before now
 
@@ -108,6 +120,9 @@ tells_orders writer.Person _ = true
 tells_orders writer.Script shows.Orders = true
 tells_orders writer.Script shows.Ends = false
 tells_orders writer.Script (shows.Timeline _ _) = false
+tells_orders writer.Log shows.Orders = true
+tells_orders writer.Log shows.Ends = false
+tells_orders writer.Log (shows.Timeline _ _) = false
 
 -- a run ends so where a trial can't go on
 abbrev pub IsHalt : EarlyEnd → Type 0

@@ -1,7 +1,7 @@
 //! The end of a run: how the supervisors stand, what was planned and never came, the verdict; or what was told before it went wrong.
 
 ghost use Rattle.std.specs.Prelude.{List};
-ghost use Rattle.otp_try.specs.Pages.{Closes, Concludes, Ended, SumsUp, WritesOut};
+ghost use Rattle.otp_try.specs.Pages.{Closes, Concludes, Ended, IsWhole, SumsUp, WritesOut};
 ghost use Rattle.otp_trial.specs.Played.{Seated};
 
 use crate::early::EarlyEnd;
@@ -28,25 +28,43 @@ impl Play {
         }
     }
 
-    /// The end of a run of which all lines were played: it is told how the supervisors stand, and what they await.
+    /// The end of a run of which all lines were played: how the supervisors stand is told, and what they await.
     fn conclude<W: Output>(&mut self, settings: Settings, output: &mut W) -> TryEnd
         ensures { Concludes result self.old.trial self.old.page.items (W.seen output.old).bytes (W.seen output.new).bytes }
     {
         match self.sum_up(settings) {
-            Ok(()) => self.write_out(output),
+            Ok(()) => self.write_out(settings, output),
             Err(end) => self.close_early(end, output),
         }
     }
 
+    /// Whether there is a verdict: a line was played, or a person saw the tree stand.
+    fn has_verdict(&self, settings: Settings) -> bool {
+        self.is_played || settings.writer == Writer::Person
+    }
+
+    /// How a run ended that was played to its end and written.
+    fn end_of(&self, settings: Settings) -> TryEnd
+        ensures { IsWhole result }
+    {
+        if let Some((line, why)) = self.left_out {
+            return TryEnd::LeftOut(line, why);
+        }
+        if !self.has_verdict(settings) {
+            return TryEnd::NothingPlayed;
+        }
+        match self.failed {
+            None => TryEnd::Done,
+            Some(line) => TryEnd::ExpectationFailed(line),
+        }
+    }
+
     /// The last of a run that was played to its end is written.
-    fn write_out<W: Output>(&self, output: &mut W) -> TryEnd
+    fn write_out<W: Output>(&self, settings: Settings, output: &mut W) -> TryEnd
         ensures { WritesOut result self.now.page.items (W.seen output.old).bytes (W.seen output.new).bytes }
     {
         match write_all(output, self.page.as_slice()) {
-            Ok(()) => match self.failed {
-                None => TryEnd::Done,
-                Some(line) => TryEnd::ExpectationFailed(line),
-            },
+            Ok(()) => self.end_of(settings),
             Err(_) => TryEnd::OutputFailed,
         }
     }
@@ -65,7 +83,8 @@ impl Play {
     fn put_summary(&mut self, settings: Settings) -> Result<(), EarlyEnd>
         ensures { SumsUp result self.old.trial self.old.page.items self.new.page.items }
     {
-        let Ok(text) = summary_of(self.alloc, &self.trial, settings.is_quiet) else {
+        let is_played = self.has_verdict(settings);
+        let Ok(text) = summary_of(self.alloc, &self.trial, settings.is_quiet, is_played) else {
             return Err(EarlyEnd::OutOfMemory);
         };
         match self.put(text.as_slice()) {

@@ -5,9 +5,10 @@ ghost use Rattle.otp_try.specs.Pages.{AddsTo, Ran};
 ghost use Rattle.otp_trial.specs.Played.{Seated};
 
 use crate::early::EarlyEnd;
-use crate::play::Play;
+use crate::play::{Play, Writer};
 use crate::remark::Topic;
 use crate::settings::Settings;
+use otp_script::ScriptFault;
 use otp_sim::{Input, Output, PIECE, write_all};
 use otp_text::LONGEST_LINE;
 use std::alloc::{AllocError, Global};
@@ -186,7 +187,7 @@ impl Play {
         ensures { Ran result self.old.trial self.new.trial self.old.page.items self.new.page.items (W.seen output.old).bytes (W.seen output.new).bytes }
     {
         if byte != b'\n' {
-            return keep(kept, byte);
+            return self.keep_byte(settings, kept, byte);
         }
         match self.take_line(settings, kept.as_slice()) {
             Ok(()) => {
@@ -195,6 +196,30 @@ impl Play {
             }
             Err(end) => Err(end),
         }
+    }
+
+    /// A byte of a line that goes on is kept, unless the line is too long for all that follows: then a script or a log ends.
+    fn keep_byte(
+        &mut self,
+        settings: Settings,
+        kept: &mut Vec<u8>,
+        byte: u8,
+    ) -> Result<(), EarlyEnd>
+        ensures { AddsTo result self.old.trial self.new.trial self.old.page.items self.new.page.items }
+    {
+        if settings.writer != Writer::Person && is_too_long(kept.len()) {
+            self.refuse_long()
+        } else {
+            keep(kept, byte)
+        }
+    }
+
+    /// The line that goes on is too long.
+    fn refuse_long(&mut self) -> Result<(), EarlyEnd>
+        ensures { AddsTo result self.old.trial self.new.trial self.old.page.items self.new.page.items }
+    {
+        self.begin_line();
+        Err(EarlyEnd::LineRefused(self.lines, ScriptFault::TooLong))
     }
 
     /// The end of the input, behind the prompt that a person saw, and the last line, if there is one.
@@ -232,10 +257,15 @@ impl Play {
     }
 }
 
+/// Whether a line is too long, whatever its last byte is.
+fn is_too_long(length: usize) -> bool {
+    length > LONGEST_LINE + 1
+}
+
 /// Keeps a byte of a line that goes on: of a line that is too long no more than shows that, whether its last byte is a CR
 /// or not.
 fn keep(kept: &mut Vec<u8>, byte: u8) -> Result<(), EarlyEnd> {
-    if kept.len() > LONGEST_LINE + 1 {
+    if is_too_long(kept.len()) {
         return Ok(());
     }
     match kept.push(byte) {

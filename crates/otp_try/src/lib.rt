@@ -1,4 +1,4 @@
-//! What would my tree do? A script is played on the cores of a tree, and it is told what comes of it: each order, or a picture,
+//! What would my tree do? A script is played on the cores of a tree, and what comes of it is told: each order, or a picture,
 //! and at the end how the supervisors stand and who gave up.
 //!
 //! `specs/Page` says what a person or a script gets to see: the orders of the cores, and remarks between.

@@ -6,7 +6,7 @@ ghost use Rattle.otp_try.specs.Page.{Adds, reply_text, shown, verdict_text};
 
 use crate::early::EarlyEnd;
 use crate::play::Writer;
-use otp_remarks::lines::{write_heading_line, write_known, write_unmet};
+use otp_remarks::lines::{write_heading_line, write_known, write_left_out, write_unmet};
 use otp_script::Step;
 use otp_trial::steps::{Outcome, do_times, is_silent};
 use otp_trial::{ActionEnd, Halt, Trial};
@@ -28,16 +28,23 @@ pub(crate) enum LineEnd {
     Taken,
     /// It did nothing, which a person was told.
     Forgotten,
+    /// It did nothing, and is left out of what a log tells.
+    LeftOut(ActionEnd),
     /// It expected what is not so.
     Unmet,
     /// The run ends so behind it.
     Ends(EarlyEnd),
 }
 
-/// Appends a sentence for a person; a script ends with it.
+/// Appends a sentence for a person, and for who reads what came of a log also of which line; a script ends with it.
 #[tactic(auto, unfolding(crate::specs::Page::reply_text))]
-fn write_reply(writer: Writer, text: &[u8], out: &mut Vec<u8>) -> Result<(), AllocError>
-    ensures { OnOk result (out.new.items ≡ out.old.items ++ reply_text writer text.now) }
+fn write_reply(
+    writer: Writer,
+    number: u64,
+    text: &[u8],
+    out: &mut Vec<u8>,
+) -> Result<(), AllocError>
+    ensures { OnOk result (out.new.items ≡ out.old.items ++ reply_text writer number text.now) }
 {
     match writer {
         Writer::Script => Ok(()),
@@ -45,6 +52,7 @@ fn write_reply(writer: Writer, text: &[u8], out: &mut Vec<u8>) -> Result<(), All
             out.extend_from_slice(text)?;
             out.extend_from_slice(b"\n")
         }
+        Writer::Log => write_left_out(number, text, out),
     }
 }
 
@@ -53,11 +61,11 @@ impl Line {
     fn write_heading(self, line: &[u8], step: Step<'_>, out: &mut Vec<u8>) -> Result<(), AllocError>
         ensures { OnOk result ((has_heading : Bool) × (out.new.items ≡ out.old.items ++ heading_line has_heading self.number line.now)) }
     {
-        let has_heading = self.tells && self.writer == Writer::Script && !is_silent(step);
+        let has_heading = self.tells && self.writer != Writer::Person && !is_silent(step);
         write_heading_line(has_heading, self.number, line, out)
     }
 
-    /// Appends what became of the line, if that is told: always that it isn't as the line expects.
+    /// Appends what became of the line, if that is told: always that it isn't as the line expects, or did nothing.
     #[tactic(auto, unfolding(crate::specs::Page::shown))]
     fn write_verdict(
         self,
@@ -67,7 +75,7 @@ impl Line {
     ) -> Result<(), AllocError>
         ensures { OnOk result ((is_told : Bool) × (out.new.items ≡ out.old.items ++ shown is_told (verdict_text self.writer self.number line.now outcome.is_unknown outcome.taken))) }
     {
-        let is_told = self.tells || outcome.taken == ActionEnd::Unmet;
+        let is_told = self.tells || outcome.taken != ActionEnd::Done;
         self.write_verdict_if(is_told, line, outcome, out)
     }
 
@@ -102,7 +110,7 @@ impl Line {
         match outcome.taken {
             ActionEnd::Done => write_known(self.number, outcome.is_unknown, out),
             ActionEnd::Unmet => write_unmet(self.number, line, out),
-            taken => write_reply(self.writer, taken.text().as_bytes(), out),
+            taken => write_reply(self.writer, self.number, taken.text().as_bytes(), out),
         }
     }
 
@@ -111,10 +119,11 @@ impl Line {
         match outcome.taken {
             ActionEnd::Done => LineEnd::Taken,
             ActionEnd::Unmet => LineEnd::Unmet,
-            taken if self.writer == Writer::Script => {
-                LineEnd::Ends(EarlyEnd::LineMissed(self.number, taken))
-            }
-            _ => LineEnd::Forgotten,
+            taken => match self.writer {
+                Writer::Script => LineEnd::Ends(EarlyEnd::LineMissed(self.number, taken)),
+                Writer::Log => LineEnd::LeftOut(taken),
+                Writer::Person => LineEnd::Forgotten,
+            },
         }
     }
 

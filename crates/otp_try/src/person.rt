@@ -27,7 +27,7 @@ impl Play {
         ensures { AddsTo result self.old.trial self.new.trial self.old.page.items self.new.page.items }
     {
         match settings.writer {
-            Writer::Script => Ok(()),
+            Writer::Script | Writer::Log => Ok(()),
             Writer::Person => self.remark(Topic::Welcome),
         }
     }
@@ -96,7 +96,7 @@ impl Play {
         }
     }
 
-    /// The same, while there is memory.
+    /// The line that was played last is kept, if it did something and there is memory.
     fn keep_done(&mut self, line: &[u8]) -> Result<(), AllocError>
         ensures page { self.new.page.items ≡ self.old.page.items }
         ensures same { self.new.trial ≡ self.old.trial }
@@ -143,7 +143,7 @@ impl Play {
         }
     }
 
-    /// The same tree, on which the lines that are kept were played from the beginning on.
+    /// A tree like this one, on which the lines that are kept were played from the beginning on.
     fn played_again(&self) -> Result<Trial, Halt>
         ensures { IfOk result (λ trial. (before : List ℕ) × (after : List ℕ) × Tells (map fresh self.now.trial) trial before after) }
     {

@@ -30,6 +30,10 @@ pub enum TryEnd {
     LineMissed(u64, ActionEnd),
     /// All of it was played, and what the line with this number expected was not so, the first of such lines.
     ExpectationFailed(u64),
+    /// All lines of a log were played but those that could do nothing, of which this is the first.
+    LeftOut(u64, ActionEnd),
+    /// No line said that something happens.
+    NothingPlayed,
     /// There were 2^62 events, as many as a supervisor has in its life.
     HistoryFull,
     InputFailed,
@@ -42,6 +46,8 @@ pub enum TryEnd {
 pub enum Writer {
     /// A script: a line that can't be read, or does nothing, ends the run.
     Script,
+    /// A log: a line that does nothing is told and left out.
+    Log,
     /// Somebody at a terminal: a prompt says how the supervisor stands, and such a line is told and forgotten.
     Person,
 }
@@ -55,6 +61,10 @@ pub(crate) struct Play {
     pub lines: u64,
     /// The first line whose expectation was not so.
     pub failed: Option<u64>,
+    /// The first line of a log that could do nothing, and why.
+    pub left_out: Option<(u64, ActionEnd)>,
+    /// A line was played that says something.
+    pub is_played: bool,
     /// A person has left the prompt: nothing more is read.
     pub is_left: bool,
     /// The lines of a person that did something, for one who wants the last of them undone.
@@ -228,6 +238,8 @@ pub fn try_tree<R: Input, W: Output>(
         trial,
         lines: 0,
         failed: None,
+        left_out: None,
+        is_played: false,
         is_left: false,
         kept: Vec::new(alloc),
         is_done: false,

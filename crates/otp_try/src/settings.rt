@@ -48,13 +48,13 @@ pub(crate) fn tells_orders(writer: Writer, shows: Shows) -> bool
 {
     match writer {
         Writer::Person => true,
-        Writer::Script => shows == Shows::Orders,
+        Writer::Script | Writer::Log => shows == Shows::Orders,
     }
 }
 
 /// Whether at the end of a run the verdict alone is told.
 pub(crate) fn is_quiet(writer: Writer, shows: Shows) -> bool {
-    writer == Writer::Script && shows == Shows::Ends
+    writer != Writer::Person && shows == Shows::Ends
 }
 
 /// The picture that is wanted, if one is.

@@ -11,12 +11,12 @@ use crate::play::{Play, Writer};
 use crate::remark::Topic;
 use crate::settings::Settings;
 use otp_script::{ScriptFault, Step, meant, read_step, strip_return};
-use otp_trial::Halt;
 use otp_trial::steps::is_silent;
+use otp_trial::{ActionEnd, Halt};
 
 impl Play {
     /// The next line begins.
-    fn begin_line(&mut self)
+    pub(crate) fn begin_line(&mut self)
         ensures page { self.new.page.items ≡ self.old.page.items }
         ensures same { self.new.trial ≡ self.old.trial }
     {
@@ -51,7 +51,7 @@ impl Play {
         ensures { AddsTo result self.old.trial self.new.trial self.old.page.items self.new.page.items }
     {
         match settings.writer {
-            Writer::Script => self.play_line(settings, line),
+            Writer::Script | Writer::Log => self.play_line(settings, line),
             Writer::Person => self.serve_person(settings, line),
         }
     }
@@ -96,7 +96,7 @@ impl Play {
     fn refuse_for(&mut self, settings: Settings, fault: ScriptFault) -> Result<(), EarlyEnd>
         ensures { AddsTo result self.old.trial self.new.trial self.old.page.items self.new.page.items }
     {
-        if settings.writer == Writer::Script {
+        if settings.writer != Writer::Person {
             return Err(EarlyEnd::LineRefused(self.lines, fault));
         }
         self.remark(Topic::Fault(fault))
@@ -120,6 +120,7 @@ impl Play {
         match end {
             LineEnd::Ends(end) => Err(end),
             LineEnd::Unmet => self.end_unmet(step),
+            LineEnd::LeftOut(why) => self.end_left_out(step, why),
             LineEnd::Taken => self.end_done(step),
             LineEnd::Forgotten => self.end_taken(step),
         }
@@ -130,8 +131,20 @@ impl Play {
         ensures drawn { (seats : List Seated) → AddsTo result seats seats self.old.page.items self.new.page.items }
         ensures same { self.new.trial ≡ self.old.trial }
     {
+        self.is_played = true;
         if self.failed.is_none() {
             self.failed = Some(self.lines);
+        }
+        self.end_taken(step)
+    }
+
+    /// The end of a line of a log that could do nothing: the first of them is kept.
+    fn end_left_out(&mut self, step: Step<'_>, why: ActionEnd) -> Result<(), EarlyEnd>
+        ensures drawn { (seats : List Seated) → AddsTo result seats seats self.old.page.items self.new.page.items }
+        ensures same { self.new.trial ≡ self.old.trial }
+    {
+        if self.left_out.is_none() {
+            self.left_out = Some((self.lines, why));
         }
         self.end_taken(step)
     }
@@ -142,6 +155,7 @@ impl Play {
         ensures same { self.new.trial ≡ self.old.trial }
     {
         self.is_done = !is_silent(step);
+        self.is_played = self.is_played || self.is_done;
         self.end_taken(step)
     }
 

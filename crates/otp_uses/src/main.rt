@@ -1,7 +1,7 @@
-//! Eight worked uses, short enough to copy: a tree that runs until another thread stops it; one of two supervisors and three jobs,
-//! drawn up and run by turns in one call; the same of two workers, over what lies below; a supervisor that is driven by hand, an
-//! inbox between two threads, a signal from one thread to another, a tree that is served turn by turn, and a job whose process
-//! is taken turn by turn.
+//! Eight worked uses, short enough to copy. Four are of trees: one runs until another thread stops it, two are run by turns in one
+//! call (one of two supervisors and three jobs, and one of two workers over what lies below), and one is served turn by turn. The
+//! others are a supervisor driven by hand, an inbox between two threads, a signal from one thread to another, and a job whose
+//! process is taken turn by turn.
 //!
 //! Each use of what threads share is a function that is generic in a name. The call of it at `Brand`, here in `main`, picks
 //! the name: whose inbox, words or deques. A file of `proofs/` says which one that is (`proofs/main/Invariants.antt`).

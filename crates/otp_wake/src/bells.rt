@@ -7,7 +7,7 @@ use std::time::Duration;
 /// So many threads have a bell.
 pub const MAX_SLEEPERS: usize = 8;
 
-/// A thread's bell: how often it was rung for a thread that slept or was about to, and how many are.
+/// A thread's bell: how often it was rung while the thread slept or was about to, and how many sleeps of it are announced.
 #[derive(Drop)]
 struct Bell {
     rings: AtomicU64,
@@ -29,7 +29,8 @@ impl Bell {
 ///
 /// Whoever has something for a thread first gives it (sends a letter, raises a flag), and then rings. A thread first announces its
 /// sleep, then looks whether there is something, and then sleeps on what the bell counted *between*. All these are single steps in
-/// one order, that of all atomic words:
+/// one order, that of all atomic words. So each is `SeqCst`, and what is given has to be, too, as the steps of inboxes and of
+/// signal words are: with acquire and release alone the ring might find no sleeper, and the look find nothing.
 ///
 /// - The ring found no sleeper announced: then the thing was given before the announcement, and the look finds it.
 /// - It found one: then it raised the count. If the sleeper read the count after that, the thing was given before its look, which

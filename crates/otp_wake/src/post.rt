@@ -11,7 +11,9 @@ const WOKEN: u64 = 1;
 /// A word for each slot of signal words: whether the job of the process that has the slot was woken, and in which thread it waits.
 ///
 /// A wake sets a bit and reads where the job waits, in one step; a job that begins to wait writes where, and reads the bit, in one
-/// step too. So either the job learns that it was woken and goes on, or whoever wakes it learns where it waits and rings.
+/// step too. So either the job learns that it was woken and goes on, or whoever wakes it learns where it waits and rings. Both
+/// steps read and write one word, so one of them sees the other whatever their ordering; they are `SeqCst` as all is that comes
+/// before a ring ([`Bells`]).
 #[derive(Drop)]
 pub struct Post {
     words: Vec<AtomicU64>,

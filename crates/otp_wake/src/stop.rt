@@ -35,7 +35,7 @@ impl Stop {
         })
     }
 
-    /// The same flag for another thread. Takes no memory.
+    /// Another handle on this flag, for another thread. Takes no memory.
     ///
     /// # Errors
     ///
@@ -46,7 +46,8 @@ impl Stop {
         })
     }
 
-    /// Raises it. It waits for nobody and takes no memory.
+    /// Raises it. It waits for nobody and takes no memory. The flag is raised before the bells are rung, and both steps are
+    /// `SeqCst`: so a thread that sleeps by these bells sees it before it sleeps, or is woken ([`Bells`]).
     pub fn raise(&self) {
         self.flag.raised.store(1, Ordering::SeqCst);
         self.flag.bells.ring_all();

@@ -1,5 +1,6 @@
 -- What the words of the command line ask for, by what `clap`'s definition of a simple command finds in them (own).
-use Rattle.std.specs.Prelude.{◌≡◌, ℕ, Bool, true, false, List, Option, Some, None, map, option_map, codes, if◌then◌else◌}
+use Rattle.std.specs.Prelude.{◌≡◌, ℕ, ◌≤◌, Bool, ◌&&◌, true, false, List, Option, Some, None, count_by, map, option_map, codes, if◌then◌else◌}
+use Rattle.std.specs.Borrow.{Bor}
 use Rattle.std.specs.Str.{bytes_eq}
 use Rattle.std.specs.Str.Parse.{IsNumeral, digits_value, without_leading_plus}
 use Rattle.clap.specs.Words.{Row, Text, all_of, first_of, one_of}
@@ -10,13 +11,15 @@ use Rattle.otp_folds.specs.declared.pick.Pick.TheVariants as pick
 use Rattle.otp_trial.specs.declared.clock.Clock.{Clock}
 use Rattle.otp_trial.specs.declared.clock.Clock.TheVariants.{Milliseconds, Seconds}
 use Rattle.otp_try.specs.declared.play.Writer.{Writer}
-use Rattle.otp_try.specs.declared.play.Writer.TheVariants.{Script, Person}
+use Rattle.otp_try.specs.declared.play.Writer.TheVariants.{Script, Log, Person}
 use Rattle.otp_roles.specs.Settings.{SettingsView}
 use Rattle.otp_suggest.specs.Times.{time_in}
 use Rattle.otp_words.specs.declared.words.Command.{Command}
 use Rattle.otp_words.specs.declared.words.Command.TheVariants as command
 use Rattle.otp_words.specs.declared.words.Form.{Form}
 use Rattle.otp_words.specs.declared.words.Form.TheVariants as form
+use Rattle.otp_words.specs.declared.words.Page.{Page}
+use Rattle.otp_words.specs.declared.words.Page.TheVariants as page
 use Rattle.otp_words.specs.declared.words.RunShows.{RunShows}
 use Rattle.otp_words.specs.declared.words.Serving.{Serving}
 use Rattle.otp_words.specs.declared.words.TrialShows.{TrialShows}
@@ -52,6 +55,7 @@ time_given (Some word) = option_map Some (time_in word)
 
 abbrev pub is_person : Writer → Bool
 is_person Script = false
+is_person Log = false
 is_person Person = true
 
 -- the children that are asked for by the name of a child, of a supervisor, or by none
@@ -86,11 +90,16 @@ AreTrialShowsOf rows shows =
     IsFlagOf rows (codes "timeline") shows.is_drawn × (IsFlagOf rows (codes "quiet") shows.is_quiet
     × (IsClockOf rows shows.clock × IsNumberOf rows (codes "width") shows.width))
 
--- in which form an answer is written: as a page where one is named, and else as an object where that is wanted
+-- the name of the place where a page goes: the output has that of standard input
+abbrev pub page_name : Page → Text
+page_name page.Output = codes "-"
+page_name (page.File name) = name.now
+
+-- in which form an answer is written: as a page where one is named, or as an object where that is wanted
 abbrev pub IsForm : Option Text → Bool → Form → Type 0
 IsForm page is_json form.Text = (page ≡ None) × (is_json ≡ false)
 IsForm page is_json form.Object = (page ≡ None) × (is_json ≡ true)
-IsForm page is_json (form.Page name) = page ≡ Some name.now
+IsForm page is_json (form.Page place) = (page ≡ Some (page_name place)) × (is_json ≡ false)
 
 abbrev pub IsFormOf : List Row → Form → Type 0
 IsFormOf rows form = (is_json : Bool) × (IsFlagOf rows (codes "json") is_json × IsForm (first_of (codes "html") rows) is_json form)
@@ -100,7 +109,7 @@ abbrev pub AsksUse : Text → List Row → Usage → Type 0
 AsksUse name rows (usage.Try script writer shows form) =
     (name ≡ codes "try") × ((option_map (λ name. name.now) script ≡ script_in (first_of (codes "SCRIPT") rows))
     × (IsFlagOf rows (codes "prompt") (is_person writer) × (AreTrialShowsOf rows shows × IsFormOf rows form)))
-AsksUse name rows (usage.Draw page) = (name ≡ codes "tree") × (option_map (λ name. name.now) page ≡ first_of (codes "html") rows)
+AsksUse name rows (usage.Draw page) = (name ≡ codes "tree") × (option_map page_name page ≡ first_of (codes "html") rows)
 AsksUse name rows usage.Stop = name ≡ codes "shutdown"
 AsksUse name rows (usage.Limit pick grain form) =
     (name ≡ codes "limits") × (IsPickOf (first_of (codes "child") rows) (first_of (codes "table") rows) pick
@@ -111,6 +120,7 @@ AsksUse name rows (usage.Compare other) = (name ≡ codes "diff") × (first_of (
 AsksUse name rows (usage.Replay log is_listed shows) =
     (name ≡ codes "replay") × ((first_of (codes "LOG") rows ≡ Some log.now)
     × (IsFlagOf rows (codes "unmatched") is_listed × AreTrialShowsOf rows shows))
+AsksUse name rows (usage.Import of_commands) = (name ≡ codes "import") × IsFlagOf rows (codes "commands") of_commands
 
 -- how a tree is run
 abbrev pub AreSettingsOf : List Row → SettingsView → Type 0
@@ -129,18 +139,35 @@ AreTimesOf rows serving =
     (time_given (first_of (codes "for") rows) ≡ Some (Some serving.time)) × ((time_given (first_of (codes "grace") rows) ≡ Some serving.grace)
     × IsFlagOf rows (codes "log") serving.is_logged)
 
+-- the name is that of standard input
+abbrev pub is_input : Text → Bool
+is_input name = bytes_eq name (codes "-")
+
+-- whether standard input is read beside the tree file: by `try` where it has the script, or where another file is named so
+unfoldable pub wants_input : Usage → Bool
+wants_input (usage.Try None writer shows form) = true
+wants_input (usage.Try (Some script) writer shows form) = is_input script.now
+wants_input (usage.Compare other) = is_input other.now
+wants_input (usage.Replay log is_listed shows) = is_input log.now
+wants_input _ = false
+
+-- standard input is no more than one of these files
+abbrev pub IsReadOnce : List (Bor Text) → Type 0
+IsReadOnce names = count_by (λ name. is_input name.now) names ≤ 1
+
 -- the subcommand of this name asks for this, with what was found for it
 abbrev pub Asks : Text → List Row → Command → Type 0
 Asks name rows (command.Sim file) = (name ≡ codes "sim") × IsFileOf rows file.now
 Asks name rows (command.Check files checking) =
     (name ≡ codes "check") × ((all_of (codes "FILE") rows ≡ Some (map (λ file. file.now) files.items))
+    × (IsReadOnce files.items
     × (IsFlagOf rows (codes "run") checking.has_starts
-    × (IsFlagOf rows (codes "all") checking.has_all × IsFlagOf rows (codes "json") checking.is_json)))
+    × (IsFlagOf rows (codes "all") checking.has_all × IsFlagOf rows (codes "json") checking.is_json))))
 Asks name rows (command.Run file settings shows) =
     (name ≡ codes "run") × (IsFileOf rows file.now × (first_of (codes "for") rows ≡ None × (AreSettingsOf rows settings × AreShownOf rows shows)))
 Asks name rows (command.Serve file settings serving shows) =
     (name ≡ codes "run") × (IsFileOf rows file.now × (AreTimesOf rows serving × (AreSettingsOf rows settings × AreShownOf rows shows)))
-Asks name rows (command.Use file what) = IsFileOf rows file.now × AsksUse name rows what
+Asks name rows (command.Use file what) = IsFileOf rows file.now × (AsksUse name rows what × ((is_input file.now && wants_input what) ≡ false))
 
 -- the same of the subcommand that was found in the words, if one was
 abbrev pub AsksFor : Option (Text × List Row) → Command → Type 0

@@ -96,6 +96,9 @@ abbrev pub replay_app : App
 replay_app =
     with_rule (with_rule (with_rule replayed_app (flag_rule (codes "quiet"))) clock_rule) (number_rule (codes "width") 1000 (codes "80"))
 
+abbrev pub import_app : App
+import_app = with_rule (file_app (codes "import")) (flag_rule (codes "commands"))
+
 abbrev pub check_app : App
 check_app =
     with_rule (with_rule (with_rule (with_rule (new_app (codes "check")) files_rule) (flag_rule (codes "run"))) (flag_rule (codes "all")))
@@ -112,5 +115,5 @@ first_app =
 
 abbrev pub otp_app : App
 otp_app =
-    with_subcommand (with_subcommand (with_subcommand (with_subcommand (with_subcommand (with_subcommand first_app limits_app.top)
-    (file_app (codes "shutdown")).top) suggest_app.top) diff_app.top) replay_app.top) (file_app (codes "sim")).top
+    with_subcommand (with_subcommand (with_subcommand (with_subcommand (with_subcommand (with_subcommand (with_subcommand first_app limits_app.top)
+    (file_app (codes "shutdown")).top) suggest_app.top) diff_app.top) replay_app.top) import_app.top) (file_app (codes "sim")).top

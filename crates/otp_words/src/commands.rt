@@ -2,7 +2,7 @@
 
 ghost use Rattle.std.specs.Prelude.{◌≡◌, true, false, codes, IfOk};
 ghost use Rattle.clap.specs.Words.{app_of, new_app, rule_of, with_rule, with_subcommand};
-ghost use Rattle.otp_words.specs.Commands.{bare_app, check_app, clock_rule, diff_app, file_app, file_rule, files_rule, flag_rule, limits_app, needed_rule, number_rule, option_rule, otp_app, picked_app, place_rule, played_app, replay_app, replayed_app, run_app, scheduled_app, shown_app, suggest_app, tree_app, tried_app, try_app};
+ghost use Rattle.otp_words.specs.Commands.{bare_app, check_app, clock_rule, diff_app, file_app, file_rule, files_rule, flag_rule, import_app, limits_app, needed_rule, number_rule, option_rule, otp_app, picked_app, place_rule, played_app, replay_app, replayed_app, run_app, scheduled_app, shown_app, suggest_app, tree_app, tried_app, try_app};
 
 use crate::help::*;
 use clap::{Arg, ArgAction};
@@ -326,6 +326,14 @@ fn sim_command<'a>(alloc: Global) -> Result<clap::Command<'a>, AllocError>
     file_command(alloc, "sim", SIM_ABOUT, SIM_EXAMPLE, FILE_ALONE)
 }
 
+/// `import FILE [--commands]`.
+fn import_command<'a>(alloc: Global) -> Result<clap::Command<'a>, AllocError>
+    ensures { IfOk result (λ c. app_of c ≡ import_app) }
+{
+    let command = file_command(alloc, "import", IMPORT_ABOUT, IMPORT_EXAMPLE, IMPORTED_HELP)?;
+    with_arg(command, flag_arg(alloc, "commands", COMMANDS_HELP))
+}
+
 /// The program without its commands.
 fn bare_command<'a>(alloc: Global) -> clap::Command<'a>
     ensures { app_of result ≡ bare_app }
@@ -384,6 +392,11 @@ pub(crate) fn otp_command<'a>(alloc: Global) -> Result<clap::Command<'a>, AllocE
         return Err(AllocError);
     };
     let command = with_command(command, replay)?;
+    let Ok(import) = import_command(alloc) else {
+        drop(command);
+        return Err(AllocError);
+    };
+    let command = with_command(command, import)?;
     let Ok(sim) = sim_command(alloc) else {
         drop(command);
         return Err(AllocError);

@@ -1,10 +1,12 @@
 //! What `clap` has found for a command, by the names of its words.
 
-ghost use Rattle.std.specs.Prelude.{◌≡◌, codes, map, option_map, IfSome};
+ghost use Rattle.std.specs.Prelude.{◌≡◌, codes, map, option_map, IfErr, IfOk, IfSome};
 ghost use Rattle.clap.specs.Words.{all_of, first_of, found_of, rows_of};
-ghost use Rattle.otp_words.specs.Asked.{IsFlagOf, IsForm, IsFormOf, IsNumberOf, time_given};
+ghost use Rattle.otp_words.specs.Asked.{IsFlagOf, IsForm, IsFormOf, IsNumberOf, page_name, time_given};
+ghost use Rattle.otp_words.specs.Words.{IsHandedOn};
 
-use crate::words::Form;
+use crate::slips::Slip;
+use crate::words::{Form, Page, WordsFault};
 use clap::ArgMatches;
 use otp_suggest::read_time;
 
@@ -63,20 +65,44 @@ pub(crate) fn width_in(found: &ArgMatches<'_>) -> Option<u32>
     found.get_one::<u32>("width")
 }
 
-/// In which form an answer is wanted: as a page where one is named, and else as an object where the flag says so.
-fn form_of<'a>(page: Option<&'a str>, is_json: bool) -> Form<'a>
-    ensures { IsForm (option_map (λ name. name.now) page.entry) is_json result }
+/// Where the page of this name goes: `-` is the output.
+fn place_of(name: &str) -> Page<'_>
+    ensures { page_name result ≡ name.now }
+{
+    if name == "-" {
+        Page::Output
+    } else {
+        Page::File(name)
+    }
+}
+
+/// Where a page goes, if one is named.
+pub(crate) fn page_of(named: Option<&str>) -> Option<Page<'_>>
+    ensures { option_map page_name result ≡ option_map (λ name. name.now) named.entry }
+{
+    match named {
+        None => None,
+        Some(name) => Some(place_of(name)),
+    }
+}
+
+/// In which form an answer is wanted: as a page where one is named, as an object where the flag says so; both can't be.
+fn form_of(page: Option<Page<'_>>, is_json: bool) -> Result<Form<'_>, WordsFault>
+    ensures form { IfOk result (IsForm (option_map page_name page.entry) is_json) }
+    ensures handed_on { IfErr result IsHandedOn }
 {
     match page {
-        Some(name) => Form::Page(name),
-        None if is_json => Form::Object,
-        None => Form::Text,
+        Some(_) if is_json => Err(WordsFault::Slip(Slip::TwoForms)),
+        Some(page) => Ok(Form::Page(page)),
+        None if is_json => Ok(Form::Object),
+        None => Ok(Form::Text),
     }
 }
 
 /// In which form an answer is wanted.
-pub(crate) fn form_in<'a>(found: &ArgMatches<'a>) -> Form<'a>
-    ensures { IsFormOf (rows_of (found_of found.now)) result }
+pub(crate) fn form_in<'a>(found: &ArgMatches<'a>) -> Result<Form<'a>, WordsFault>
+    ensures form { IfOk result (IsFormOf (rows_of (found_of found.now))) }
+    ensures handed_on { IfErr result IsHandedOn }
 {
-    form_of(value_of(found, "html"), is_set(found, "json"))
+    form_of(page_of(value_of(found, "html")), is_set(found, "json"))
 }

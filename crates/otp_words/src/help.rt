@@ -7,12 +7,12 @@ pub(crate) const OTP_ABOUT: &str =
     "Supervisors of Erlang/OTP by rules that are proved: try them, and run trees";
 
 pub(crate) const OTP_STATUSES: &str =
-    "Example: otp try examples/storm.toml examples/storm_survived.script\nStatuses: 0 done, 1 a file, its tree or its starts, 2 the words, 3 a line of\nsim, the input or 2^62 events, 4 output or memory, 5 a line of a script, 6 what\na line expects, 7 a run that ran out of turns, or of time to stop.\nThe formats stand in docs/FORMATS.md; `otp check FILE` explains what is wrong in\na tree file.";
+    "Example: otp try examples/storm.toml examples/storm_survived.script\nStatuses: 0 done, 1 a file, its tree or its starts, 2 the words, 3 a line of\nsim, the input or 2^62 events, 4 output or memory, 5 a line of a script, 6 what\na line expects, 7 a run that ran out of turns, or of time to stop, 8 nothing of\na script or a log was played.\nThe formats stand in docs/FORMATS.md; `otp check FILE` explains what is wrong in\na tree file.";
 
 pub(crate) const TRY_ABOUT: &str = "Says what a tree does where a script says what goes wrong";
 
 pub(crate) const TRY_EXAMPLE: &str =
-    "Example: otp try examples/storm.toml examples/storm_survived.script\nA script has lines as `at 1s crash db`, `+500ms fail db`, `hang db`, `stop`,\n`every 2s 20 times crash db`, `expect up db`.\nStatuses: 0 all lines were played, 1 a file or its tree, 2 the words, 3 the\ninput or 2^62 events, 4 output or memory, 5 a line can't be read or could do\nnothing, 6 what a line expects is not so.\nAll lines: otp help script. Formats: docs/FORMATS.md, under Scripts.";
+    "Example: otp try examples/storm.toml examples/storm_survived.script\nA script has lines as `at 1s crash db`, `+500ms fail db`, `hang db`, `stop`,\n`every 2s 20 times crash db`, `expect up db`.\nStatuses: 0 all lines were played, 1 a file or its tree, 2 the words, 3 the\ninput or 2^62 events, 4 output or memory, 5 a line can't be read or could do\nnothing, 6 what a line expects is not so, 8 no line says what happens.\nAll lines: otp help script. Formats: docs/FORMATS.md, under Scripts.";
 
 pub(crate) const RUN_ABOUT: &str = "Runs a tree on threads: each child does what its start says";
 
@@ -37,7 +37,7 @@ pub(crate) const LIMITS_ABOUT: &str =
     "Says what each child's failure costs: which crashes are survived";
 
 pub(crate) const LIMITS_EXAMPLE: &str =
-    "Example: otp limits examples/storm.toml\nburst: so many crashes at once are survived; interval: crashes so far apart are\nsurvived, and with a millisecond less not; root, where supervisors stand below:\nso many crashes the root survives.\nOTP counts restarts in whole seconds, and may need a longer interval, which\nstands below the table.\nStatuses: 0 the table was written, 1 the file says no tree (`otp check FILE`\nsays why) or can't be read, 2 the words, 3 2^62 events, 4 output or memory.\nFormats: docs/FORMATS.md, under Limits.";
+    "Example: otp limits examples/storm.toml\nburst: so many crashes at once are survived; interval: crashes so far apart are\nsurvived, and with a millisecond less not; stops, starts: so many processes one\ncrash stops and starts, with all below them; root, where supervisors stand\nbelow: so many crashes the root survives.\nOTP counts restarts in whole seconds, and may need a longer interval, which\nstands below the table.\nStatuses: 0 the table was written, 1 the file says no tree (`otp check FILE`\nsays why) or can't be read, 2 the words, 3 2^62 events, 4 output or memory.\nFormats: docs/FORMATS.md, under Limits.";
 
 pub(crate) const CHILD_HELP: &str =
     "The child with this name alone, as pool/worker, with\nall that it stops";
@@ -76,11 +76,23 @@ pub(crate) const REPLAY_ABOUT: &str =
     "What a tree would have done, had happened to it what a log tells";
 
 pub(crate) const REPLAY_EXAMPLE: &str =
-    "Example: otp replay examples/shop.toml examples/shop.log\nA line is a time and what happened: 2026-11-26T20:49:00.125Z crash db, or\n12.250 exit pool/a normal. The first line that is played is the time zero.\nStatuses: 0 all such lines were played, 1 a file or its tree, 2 the words, or a\nline whose time can't be, 3 2^62 events, 4 output or memory, 5 a line could do\nnothing, 6 what a line expects (`up db`) is not so.\nFormats: docs/FORMATS.md, under Replays.";
+    "Example: otp replay examples/shop.toml examples/shop.log\nA line is a time and what happened: 2026-11-26T20:49:00.125Z crash db, or\n12.250 exit pool/a normal. The first line that is played is the time zero.\nStatuses: 0 all such lines were played, 1 a file or its tree, 2 the words, or a\nline whose time can't be, 3 2^62 events, 4 output or memory, 5 a line could do\nnothing, 6 what a line expects (`up db`) is not so, 8 none was played.\nFormats: docs/FORMATS.md, under Replays.";
 
 pub(crate) const LOG_FILE_HELP: &str = "The log; - is standard input, up to 1 MiB";
 
 pub(crate) const UNMATCHED_HELP: &str = "Lists the lines of the log that weren't played";
+
+pub(crate) const IMPORT_ABOUT: &str =
+    "Makes a tree file of what Erlang, Elixir, supervisord or systemd says";
+
+pub(crate) const IMPORT_EXAMPLE: &str =
+    "Example: escript examples/walk.escript kernel | otp import - > kernel.toml\nFILE is a term, as {ok, {SupFlags, ChildSpecs}}, the file of supervisord, or\nunits as systemctl cat prints them. On standard error stands what has no\ncounterpart: FILE:LINE:COLUMN: what it is.\nStatuses: 0 it was written, 1 FILE says no tree or can't be read, 2 the words, 4\noutput or memory.\nFormats: docs/FORMATS.md, under Imports; docs/FROM.md says what becomes of what.";
+
+pub(crate) const IMPORTED_HELP: &str =
+    "A term of Erlang or Elixir, a file of supervisord, or\nunits of systemd; - is standard input";
+
+pub(crate) const COMMANDS_HELP: &str =
+    "Writes what each start runs instead: the file of\ncommands of otp-procs";
 
 pub(crate) const SIM_ABOUT: &str =
     "Plays event lines on a supervisor, and prints each order it gives";
@@ -132,6 +144,7 @@ pub(crate) const ALL_HELP: &str = "Tells of all faults of a file, and not of the
 
 pub(crate) const JSON_HELP: &str = "Writes an object of JSON for each file, a line each";
 
-pub(crate) const PAGE_HELP: &str = "Writes a page of HTML to this file instead, anew";
+pub(crate) const PAGE_HELP: &str =
+    "Writes a page of HTML to this file instead, which is\nnew or a page; - is standard output";
 
 pub(crate) const OBJECT_HELP: &str = "Writes one object of JSON instead, on one line";

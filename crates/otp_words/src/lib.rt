@@ -9,10 +9,13 @@ mod getters;
 mod help;
 mod questions;
 mod runs;
+mod slips;
 mod topics;
 mod trials;
 mod words;
 
+pub use slips::{Meant, Slip};
 pub use words::{
-    Checking, Command, Form, RunShows, Serving, TrialShows, Usage, WordsFault, read_words, words_of,
+    Checking, Command, Form, Page, RunShows, Serving, TrialShows, Usage, WordsFault, read_words,
+    words_of,
 };

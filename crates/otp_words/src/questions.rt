@@ -29,14 +29,16 @@ fn grain_of(is_each: bool) -> Grain
 }
 
 /// What the words after `limits` ask for.
-pub(crate) fn read_limits<'a>(found: &ArgMatches<'a>) -> Usage<'a>
-    ensures { AsksUse (codes "limits") (rows_of (found_of found.now)) result }
+pub(crate) fn read_limits<'a>(found: &ArgMatches<'a>) -> Result<Usage<'a>, WordsFault>
+    ensures asked { IfOk result (AsksUse (codes "limits") (rows_of (found_of found.now))) }
+    ensures handed_on { IfErr result IsHandedOn }
 {
-    Usage::Limit {
+    let form = form_in(found)?;
+    Ok(Usage::Limit {
         pick: pick_of(value_of(found, "child"), value_of(found, "table")),
         grain: grain_of(is_set(found, "each")),
-        form: form_in(found),
-    }
+        form,
+    })
 }
 
 /// What the words after `suggest` ask for.

@@ -81,11 +81,12 @@ pub(crate) fn read_try<'a>(found: &ArgMatches<'a>) -> Result<Usage<'a>, WordsFau
     ensures handed_on { IfErr result IsHandedOn }
 {
     let shows = trial_shows_in(found)?;
+    let form = form_in(found)?;
     Ok(Usage::Try {
         script: script_of(value_of(found, "SCRIPT")),
         writer: writer_of(is_set(found, "prompt")),
         shows,
-        form: form_in(found),
+        form,
     })
 }
 

@@ -5,8 +5,7 @@ ghost use Rattle.otp_world.specs.Late.{delayed, forgotten, is_late_of};
 
 use std::alloc::AllocError;
 
-/// That the process of this number, of a child of the supervisor at this place, does at this time what it was asked to: it
-/// shuts down.
+/// The process of this number, of a child of the supervisor at this place, shuts down at this time, as it was asked to.
 #[derive(Clone, Copy, Debug, PartialEq, Eq)]
 pub struct Late {
     pub time: u64,
@@ -14,7 +13,7 @@ pub struct Late {
     pub process: u64,
 }
 
-/// Whether it is the process of this number.
+/// Whether the process that is late has this number.
 #[tactic(auto, unfolding(crate::specs::Late::is_late_of))]
 fn is_late_of(process: u64, late: &Late) -> bool
     ensures { result ≡ is_late_of process late.now }

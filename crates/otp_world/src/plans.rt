@@ -8,7 +8,7 @@ use otp_reason::Name;
 use otp_script::{Child, NextStart};
 use std::alloc::AllocError;
 
-/// That the next start of the child with this id, of the supervisor at this place, answers so.
+/// What the next start of the child with this id answers, of the supervisor at this place.
 #[derive(Clone, Copy, Debug, PartialEq, Eq)]
 pub struct Plan {
     pub place: usize,
@@ -20,7 +20,7 @@ pub struct Plan {
     pub is_known: bool,
 }
 
-/// That a child of the supervisor at this place doesn't end when it is next asked to shut down, or so much later.
+/// A child of the supervisor at this place that doesn't end when it is next asked to shut down, or so much later.
 #[derive(Clone, Copy, Debug, PartialEq, Eq)]
 pub struct Hang {
     pub place: usize,
@@ -46,7 +46,7 @@ fn plan_of(plans: &[Plan], place: usize, id: &Name) -> Option<usize>
     plans.iter().position(|plan| is_for(place, id, plan))
 }
 
-/// The same of a child that has an id.
+/// The place of the first plan for this child of the supervisor at this place, if the child has an id.
 #[tactic(auto, unfolding(crate::specs::Plans::plan_for))]
 fn plan_for(plans: &[Plan], place: usize, id: &Option<Name>) -> Option<usize>
     ensures place { result ≡ plan_for place id.now plans.now }
@@ -113,7 +113,7 @@ pub(crate) fn hang_of(
         .position(|hang| is_hung(place, id, number, hang))
 }
 
-/// That a child doesn't end at once though it is asked to shut down, which stands at this place. That is used up.
+/// Takes out, at this place of the list, which child doesn't end at once when it is asked to shut down.
 pub(crate) fn take_hang(hanging: &mut Vec<Hang>, at: usize) -> Hang
     requires { at < length hanging.old.items }
     ensures hang { slice_get hanging.old.items at ≡ Some result }

@@ -72,7 +72,7 @@ fn note_of_start(start: Option<NextStart>, number: u64) -> Note
     }
 }
 
-/// That a note comes at the supervisor at this place.
+/// A note comes to the supervisor at this place.
 #[tactic(auto, unfolding(crate::specs::Deeds::told_to))]
 fn told_to(place: usize, note: Note) -> Deed
     ensures { result ≡ told_to place note }
@@ -100,7 +100,7 @@ fn deed_of_start(place: usize, number: u64, start: Option<NextStart>, below: Opt
     }
 }
 
-/// What comes of it that a process is to end for this reason: it does; or where it is a supervisor nothing at once.
+/// What comes of it where a process is to end for this reason: its end is told; where it is a supervisor nothing comes at once.
 #[tactic(auto, unfolding(crate::specs::World::deed_of_stop))]
 fn deed_of_stop(place: usize, number: u64, reason: Reason, below: Option<usize>) -> Option<Deed>
     ensures { result ≡ deed_of_stop place number reason below }
@@ -150,7 +150,7 @@ fn stop_below(links: &mut Vec<Link>, below: Option<usize>)
     }
 }
 
-/// The same supervisors, of which none has a process.
+/// These supervisors, none of which has a process.
 fn links_again(alloc: Global, links: &[Link]) -> Result<Vec<Link>, AllocError> {
     let mut again = Vec::new(alloc);
     for link in links {
@@ -176,7 +176,7 @@ impl World {
         }
     }
 
-    /// The same supervisors in a world in which nothing has happened.
+    /// A world with these supervisors, in which nothing has happened.
     pub fn again(&self, alloc: Global) -> Result<Self, AllocError> {
         let links = links_again(alloc, self.links.as_slice())?;
         Ok(World::new(alloc, links))
@@ -385,7 +385,7 @@ impl World {
         }
     }
 
-    /// The same of this child of the supervisor at this place, whose process has this number.
+    /// What comes of an order to shut down this child of the supervisor at this place, whose process has this number.
     fn ask(
         &mut self,
         now: u64,

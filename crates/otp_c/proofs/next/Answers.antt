@@ -25,6 +25,7 @@ returns-in-Ok-Some c =
       supervisor = refl;
       effect = readied.effect;
       next = readied.next;
+      first = readied.first;
       what_is = refl;
       takes = c.took.ensures;
       keeps = keeps_what readied.effect (state_in readied.next.member).rows place mid c.args.session.now.answer c.ready.new.self.answer readied.keeps;

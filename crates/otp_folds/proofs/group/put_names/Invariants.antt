@@ -5,5 +5,5 @@ use Rattle.otp_folds.proofs.group.put_names.Given as goal
 
 abbrev pub invariant-loop-other : goal.invariant-loop-other
 invariant-loop-other l =
-    l.names ++ names_with (is_alike l.grain l.strategy l.spec) (drop l.other-index l.all)
-    ≡ l.fn.names ++ names_with (is_alike l.grain l.strategy l.spec) l.all
+    l.names ++ names_with (is_alike l.grain l.strategy l.child) (drop l.other-index l.all)
+    ≡ l.fn.names ++ names_with (is_alike l.grain l.strategy l.child) l.all

@@ -22,12 +22,13 @@ loop-place-preserved g c =
     let more : take (place + 1) seats ≡ take place seats ++ seat ∷ [] =
     ap (λ (n : ℕ). take n seats) next ∙ take-suc seats place seat inside ∙ ap (λ (x : Seated). take place seats ++ x ∷ []) is in
     let count : 0 + length (take place seats) ≡ place = length_take place seats inside in
-    let here : HaveRows c.args.pick.now c.args.tree.now (0 + length (take place seats)) seat (groups_in c.args.grain seat) own =
-    subst (λ (n : ℕ). HaveRows c.args.pick.now c.args.tree.now n seat (groups_in c.args.grain seat) own) (sym count) c.in_ok-put_seat.ensures.1.0 in (
+    let here : HaveRows c.args.pick.now c.args.tree.now seats (0 + length (take place seats)) seat (groups_in c.args.grain seats seat) own =
+    subst (λ (n : ℕ). HaveRows c.args.pick.now c.args.tree.now seats n seat (groups_in c.args.grain seats seat) own) (sym count)
+    (subst (λ (all : List Seated). HaveRows c.args.pick.now c.args.tree.now all place seat (groups_in c.args.grain all seat) own) c.as_slice-in-loop-place.ensures.value c.in_ok-put_seat.ensures.1.0) in (
       each ++ own,
       (
-        subst (λ (xs : List Seated). AreRowsFrom c.args.grain c.args.pick.now c.args.tree.now 0 xs (each ++ own)) (sym more)
-            (supervisor_more c.args.grain c.args.pick.now c.args.tree.now 0 (take place seats) seat each own c.loop-place.invariant.1.0 here),
+        subst (λ (xs : List Seated). AreRowsFrom c.args.grain c.args.pick.now c.args.tree.now seats 0 xs (each ++ own)) (sym more)
+            (supervisor_more c.args.grain c.args.pick.now c.args.tree.now seats 0 (take place seats) seat each own c.loop-place.invariant.1.0 here),
         c.in_ok-put_seat.ensures.1.1 ∙ ap (λ (cs : List Row). ranked is_worse cs own) c.loop-place.invariant.1.1 ∙ sym (ranked_append is_worse [] each own),
       ),
     )

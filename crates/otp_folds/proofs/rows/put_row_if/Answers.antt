@@ -10,7 +10,7 @@ returns-in_ok-put_in c =
     let own : List Row = row ∷ [] in (
       own,
       (
-        subst (λ (b : Bool). HasRow b c.args.tree.now c.args.place c.args.seat.now c.args.group.now own) (sym c.if-is_wanted.true)
+        subst (λ (b : Bool). HasRow b c.args.tree.now c.args.seats.now c.args.place c.args.seat.now c.args.group.now own) (sym c.if-is_wanted.true)
             (row, (refl, c.in_ok-row.ensures)),
         c.in_ok-put_in.ensures,
       ),

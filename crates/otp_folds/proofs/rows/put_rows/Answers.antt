@@ -20,10 +20,10 @@ loop-at-preserved c =
     let is : get_or groups at group ≡ group = sym c.index-groups-at.is in
     let more : take (at + 1) groups ≡ take at groups ++ group ∷ [] =
     ap (λ (n : ℕ). take n groups) next ∙ take-suc groups at group c.loop-at-test.true ∙ ap (λ (x : Group). take at groups ++ x ∷ []) is in
-    let Has : Group → List Row → Type 0 = λ g rows. HasRow (is_wanted c.args.pick.now c.args.seat.now.path g.names) c.args.tree.now c.args.place c.args.seat.now g rows in (
+    let Has : Group → List Row → Type 0 = λ g rows. HasRow (is_wanted c.args.pick.now c.args.seat.now.path g.names) c.args.tree.now c.args.seats.now c.args.place c.args.seat.now g rows in (
       each ++ own,
       (
-        subst (λ (gs : List Group). HaveRows c.args.pick.now c.args.tree.now c.args.place c.args.seat.now gs (each ++ own)) (sym more)
+        subst (λ (gs : List Group). HaveRows c.args.pick.now c.args.tree.now c.args.seats.now c.args.place c.args.seat.now gs (each ++ own)) (sym more)
             (each_more Has (take at groups) group each own c.loop-at.invariant.1.0 c.in_ok-put_row.ensures.1.0),
         c.in_ok-put_row.ensures.1.1 ∙ ap (λ (rs : List Row). ranked is_worse rs own) c.loop-at.invariant.1.1 ∙ sym (ranked_append is_worse c.args.rows.now.items each own),
       ),

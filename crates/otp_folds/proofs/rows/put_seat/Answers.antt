@@ -1,7 +1,5 @@
 use Rattle.std.proofs.Common.{◌∙◌, List, ap, subst, sym}
 use Rattle.std.specs.Prelude.{OnOk}
-use Rattle.otp_folds.specs.Alike.{is_alike}
-use Rattle.otp_folds.specs.Groups.{groups}
 use Rattle.otp_folds.specs.Rows.{HaveRows, PutsRanked}
 use Rattle.otp_folds.specs.declared.group.Group.{Group}
 use Rattle.otp_folds.proofs.rows.put_seat.Goals as goal
@@ -9,7 +7,7 @@ use Rattle.otp_folds.proofs.rows.put_seat.Goals as goal
 pub returns : goal.returns
 returns c =
     let Put : List Group → Type 0 =
-    λ found. OnOk c.put_rows-put.result (PutsRanked (HaveRows c.args.pick.now c.args.tree.now c.args.place c.args.seat.now found) c.args.rows.now.items c.put_rows-put.new.rows.items) in
+    λ found. OnOk c.put_rows-put.result (PutsRanked (HaveRows c.args.pick.now c.args.tree.now c.args.seats.now c.args.place c.args.seat.now found) c.args.rows.now.items c.put_rows-put.new.rows.items) in
     subst Put
-    (c.as_slice.ensures.value ∙ c.in_ok-groups.ensures ∙ sym (ap (λ base. groups (is_alike c.args.grain base.flags.strategy) base.specs) c.supervisor.ensures))
+    (c.as_slice.ensures.value ∙ c.in_ok-groups.ensures)
     c.put_rows-put.ensures

@@ -1,7 +1,10 @@
 use Rattle.std.proofs.Common.{◌≡◌, ◌+◌, ◌<◌, ◌∙◌, length, ap, rules, subst, sym, arith}
 use Rattle.std.specs.Prelude.{All}
 use Rattle.otp_draft.specs.Plans.{IsNear}
-use Rattle.otp_open.specs.Adds.{Fit}
+use Rattle.otp_open.specs.Adds.{ArePlannedFrom, Fit}
+use Rattle.otp_sup.specs.Anew.{PlannedUnder}
+use Rattle.otp_bodies.specs.Bodies.{handed_in}
+use Rattle.std.proofs.lemmas.Bool.{false≢true}
 use Rattle.otp_open.specs.Plans.{HasBodies}
 use Rattle.otp_open.proofs.Adds.{fit_next, of_next, of_others, some_space}
 use Rattle.otp_open.proofs.adding.plan_all.Goals as goal
@@ -57,9 +60,16 @@ loop-plan-preserved g c =
       bodies = of_others HasBodies _ _ _ next i.bodies;
       near = of_others (λ plan. All IsNear plan.bodies.items) _ _ _ next i.near;
       fit = (fit_next _ _ _ _ _ _ next spaces i.fit).1;
+      planned =
+          elim c.if-not-plan_one.branch [
+            | then-not-plan_one w ↦ (λ all later. absurd (false≢true (sym w.are_all-is ∙ all)))
+            | else-not-plan_one w ↦ (λ all later. i.planned (sym w.are_all-is ∙ all)
+                (subst (λ l. ArePlannedFrom g.N.PlanNaming.plan c.loop-plan.number l) (sym next)
+                (subst (λ n. PlannedUnder g.N.PlanNaming.plan n c.in-Some.plan.supervisor (handed_in (length c.in-Some.plan.bodies.items))) (c.in-Some-sup_at.ensures {u = tt}).there (c.plan_one.ensures.planned (search rules)), later)))
+          ];
       occupied =
           elim c.if-not-plan_one.branch [
-            | then-not-plan_one w ↦ (λ none. (c.in-Some-sup_at.sup.now.inbox, c.plan_one.ensures (search rules)))
+            | then-not-plan_one w ↦ (λ none. (c.in-Some-sup_at.sup.now.inbox, c.plan_one.ensures.occupied (search rules)))
             | else-not-plan_one w ↦ (λ none. i.occupied (sym w.are_all-is ∙ none))
           ];
     }

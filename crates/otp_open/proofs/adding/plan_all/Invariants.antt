@@ -1,5 +1,5 @@
-use Rattle.std.proofs.Common.{◌≡◌, ◌+◌, ◌≤◌, false, length}
-use Rattle.otp_open.specs.Adds.{AreNear, Fit, IsAnyOccupied}
+use Rattle.std.proofs.Common.{◌≡◌, ◌+◌, ◌≤◌, false, true, length}
+use Rattle.otp_open.specs.Adds.{AreNear, ArePlannedFrom, Fit, IsAnyOccupied}
 use Rattle.otp_open.specs.Plans.{HaveBodies}
 use Rattle.otp_open.proofs.adding.plan_all.Given as goal
 
@@ -13,5 +13,6 @@ invariant-loop-plan g l =
       bodies : HaveBodies l.plan-iterator.rest.items;
       near : AreNear l.plan-iterator.rest.items;
       fit : Fit l.plan-iterator.rest.items l.spaces.rest.items;
+      planned : l.are_all ≡ true → ArePlannedFrom g.N.PlanNaming.plan l.number l.plan-iterator.rest.items → ArePlannedFrom g.N.PlanNaming.plan l.fn.first l.fn.plans.items;
       occupied : l.are_all ≡ false → IsAnyOccupied g.N.PlanNaming.plan;
     }

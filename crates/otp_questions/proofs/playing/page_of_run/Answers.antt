@@ -1,6 +1,6 @@
-use Rattle.std.proofs.Common.{◌≡◌, ◌++◌, ◌∙◌, ℕ, List, ap₂, sym, subst}
+use Rattle.std.proofs.Common.{◌++◌, ◌∙◌, ℕ, List, ap, sym, subst}
 use Rattle.otp_ending.specs.declared.ending.ProgramEnd.{ProgramEnd}
-use Rattle.otp_tried.specs.Timeline.{timeline_page}
+use Rattle.otp_tried.specs.Timeline.{TellsPage}
 use Rattle.otp_questions.specs.Paged.{IsRunOf}
 use Rattle.otp_questions.proofs.playing.page_of_run.Goals as goal
 
@@ -10,8 +10,8 @@ returns-in-Ok-clause-page c =
     let run : IsRunOf c.args.file.now account c.end_of_try-ending.result =
     subst (λ (e : ProgramEnd). IsRunOf c.args.file.now account e) (sym c.end_of_try-ending.ensures) (c.in_ok-account.ensures {u = tt}).run
     in
-    let page =
-    (c.in-Ok.ensures {u = tt}).page
-    ∙ ap₂ (λ (before name : List ℕ). before ++ timeline_page name account.trial account) c.new-page.ensures.items c.as_bytes.ensures.value
-    in
-    (account, (run, page))
+    let told = (c.in-Ok.ensures {u = tt}).page in
+    let text : List ℕ = told.0 in
+    let tells = subst (λ (name : List ℕ). TellsPage name account text) c.as_bytes.ensures.value told.1.0 in
+    let all = told.1.1 ∙ ap (λ (before : List ℕ). before ++ text) c.new-page.ensures.items in
+    (account, (run, subst (λ (page : List ℕ). TellsPage c.args.name.now account page) (sym all) tells))

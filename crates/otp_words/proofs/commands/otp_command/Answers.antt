@@ -17,4 +17,5 @@ returns c =
     let seven = c.in_ok-command-7.ensures ∙ ap₂ with_subcommand six (ap top_of (c.in-Ok-suggest_command.ensures {u = tt})) in
     let eight = c.in_ok-command-8.ensures ∙ ap₂ with_subcommand seven (ap top_of (c.in-Ok-diff_command.ensures {u = tt})) in
     let nine = c.in_ok-command-9.ensures ∙ ap₂ with_subcommand eight (ap top_of (c.in-Ok-replay_command.ensures {u = tt})) in
-    IfOk-weaker c.with_command-10.result _ _ (λ command added. added ∙ ap₂ with_subcommand nine (ap top_of (c.in-Ok-sim_command.ensures {u = tt}))) c.with_command-10.ensures
+    let ten = c.in_ok-command-10.ensures ∙ ap₂ with_subcommand nine (ap top_of (c.in-Ok-import_command.ensures {u = tt})) in
+    IfOk-weaker c.with_command-11.result _ _ (λ command added. added ∙ ap₂ with_subcommand ten (ap top_of (c.in-Ok-sim_command.ensures {u = tt}))) c.with_command-11.ensures

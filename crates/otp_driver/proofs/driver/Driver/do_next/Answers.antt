@@ -1,4 +1,4 @@
-use Rattle.std.proofs.Common.{Bool, true, inl, rules, subst}
+use Rattle.std.proofs.Common.{Bool, inl, rules, subst}
 use Rattle.otp_driver.specs.Driven.{Carried, Does}
 use Rattle.otp_driver.proofs.Within.{has_next}
 use Rattle.otp_driver.proofs.driver.Driver.do_next.Goals as goal

@@ -1,4 +1,4 @@
-use Rattle.std.proofs.Common.{◌∙◌, sym, rules}
+use Rattle.std.proofs.Common.{sym, rules}
 use Rattle.otp_driver.proofs.Under.{none_near}
 use Rattle.otp_driver.proofs.driver.Driver.is_nested.Goals as goal
 

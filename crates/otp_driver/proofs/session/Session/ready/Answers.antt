@@ -20,6 +20,7 @@ returns c =
       goes_on = c.in_ok-place.ensures.goes_on;
       effect = outside.order;
       next = outside.next;
+      first = outside.first;
       keeps = c.in_ok-keep_next.ensures.kept outside.order _ outside.next;
     } in
     subst (λ (s : Session). Readied place c.args.self.now s) (sym same) readied

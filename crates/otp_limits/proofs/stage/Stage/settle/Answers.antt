@@ -1,13 +1,15 @@
 use Prim.Native.Nat.{zero, suc}
-use Rattle.std.proofs.Common.{ℕ, ◌≡◌, ◌+◌, ◌∙◌, Option, ap, arith, refl, sym}
+use Rattle.std.specs.Prelude.{is_some}
+use Rattle.otp_core.specs.declared.cut.TheConstants.{MAX_EVENTS_IN_ALL}
+use Rattle.std.proofs.Common.{◌<◌, rules, subst, ℕ, ◌≡◌, ◌+◌, ◌∙◌, Option, ap, arith, refl, sym}
 use Rattle.otp_rules.specs.declared.event.Kind.{Kind}
-use Rattle.otp_limits.specs.Scene.{Scene, happened, heard, next_in, turned, turns}
+use Rattle.otp_limits.specs.Scene.{IsFull, Scene, happened, heard, next_in, turned, turns}
 use Rattle.otp_limits.proofs.Scenes.{happened_events}
 use Rattle.otp_limits.proofs.stage.Stage.settle.Goals as goal
 
 pub loop-init : goal.loop-init
 unfolding turns
-loop-init c = ((zero, refl), omega arith)
+loop-init c = ((zero, refl), omega arith, λ some. absurd (omega (arith, some)))
 
 pub loop-preserved : goal.loop-preserved
 unfolding turns turned
@@ -26,4 +28,15 @@ loop-preserved c =
             ∙ ap (λ (s : Scene). turned time s (next_in time s)) c.loop.invariant.0.1,
       ),
       omega (arith, grew, c.loop.invariant.1),
+      λ some many. record {
+        count = c.loop.invariant.0.0;
+        is_full = subst (λ (s : Scene). IsFull s) c.loop.invariant.0.1 (omega (arith, grew, many));
+        more = ap (λ (s : Scene). is_some (next_in time s)) (sym c.loop.invariant.0.1) ∙ ap is_some (sym c.next_kind.ensures ∙ c.in-Some.is);
+      },
     )
+
+pub returns-clause-full : goal.returns-clause-full
+returns-clause-full c =
+    let some : 0 < c.loop.counter = search rules in
+    let many : MAX_EVENTS_IN_ALL < c.loop.self.events = search rules in
+    λ _. c.loop.invariant.2 some many

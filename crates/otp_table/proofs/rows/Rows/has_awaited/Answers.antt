@@ -8,5 +8,5 @@ use Rattle.otp_table.proofs.rows.Rows.has_awaited.Goals as goal
 
 pub returns : goal.returns
 returns c =
-    ap (λ (n : ℕ). nat_lt 0 n) c.self.invariant.counted.awaited ∙ some_counted (row_has is_awaited) c.self.inside.items.items
+    ap (λ (n : ℕ). nat_lt 0 n) (c.awaited.ensures _ c.self.invariant.counted) ∙ some_counted (row_has is_awaited) c.self.inside.items.items
     ∙ ap (λ (t : Table). list_any (row_has is_awaited) t.rows) c.self.view_is

@@ -8,5 +8,5 @@ use Rattle.otp_table.proofs.rows.Rows.has_timed.Goals as goal
 
 pub returns : goal.returns
 returns c =
-    ap (λ (n : ℕ). nat_lt 0 n) c.self.invariant.counted.timed ∙ some_counted (row_has is_timed) c.self.inside.items.items
+    ap (λ (n : ℕ). nat_lt 0 n) (c.timed.ensures _ c.self.invariant.counted) ∙ some_counted (row_has is_timed) c.self.inside.items.items
     ∙ ap (λ (t : Table). list_any (row_has is_timed) t.rows) c.self.view_is

@@ -16,7 +16,7 @@ invariant_of-self c =
     record {
       room = search rules;
       limit = search rules;
-      counted = subst (AreCounted _) (sym c.push_reserved.ensures.items) (subst (λ (xs : List Row). AreCounted c.counts_with-self-inside.result (xs ++ c.args.row ∷ [])) c.deref.ensures.value c.counts_with-self-inside.ensures);
+      counted = subst (AreCounted _) (sym c.push_reserved.ensures.items) (subst (λ (xs : List Row). AreCounted c.count_row.new.counts (xs ++ c.args.row ∷ [])) c.deref.ensures.value c.count_row.ensures);
       defined = pushed_defined c.self.inside.items.items c.push_reserved.new.self.items c.self.inside.defined _ c.args.row c.push_reserved.ensures.items c.self.invariant.defined (omega (arith, c.min-self-inside.ensures)) (grind (arith, common_steps));
       within = pushed_within c.self.inside.items.items _ c.args.row _ c.self.inside.greatest _ c.push_reserved.ensures.items c.number-number.ensures c.self.invariant.within c.greatest_with-self-inside.ensures;
       apart = λ w. pushed_apart c.self.inside.items.items _ c.args.row c.len-2.result c.number-number.result c.push_reserved.ensures.items (search rules) c.number-number.ensures (c.self.invariant.apart (c.stay_apart-self-inside.ensures.before w))

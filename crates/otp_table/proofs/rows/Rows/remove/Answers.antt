@@ -18,7 +18,7 @@ invariant_of-self c =
     record {
       room = search rules;
       limit = search rules;
-      counted = subst (AreCounted c.counts_without-self-inside.result) (sym c.remove.ensures.items) (subst (λ (xs : List Row). AreCounted c.counts_without-self-inside.result (remove xs c.args.place)) c.deref.ensures.value c.counts_without-self-inside.ensures);
+      counted = subst (AreCounted c.uncount_row.new.counts) (sym c.remove.ensures.items) (subst (λ (xs : List Row). AreCounted c.uncount_row.new.counts (remove xs c.args.place)) c.deref.ensures.value c.uncount_row.ensures);
       defined = removed_defined c.self.inside.items.items c.remove.new.self.items c.args.place c.self.inside.defined _ c.remove.ensures.items (search rules) c.self.invariant.defined c.defined_without-self-inside.ensures.less c.defined_without-self-inside.ensures.gone;
       within = removed_within c.self.inside.items.items _ c.args.place c.self.inside.greatest c.remove.ensures.items c.self.invariant.within;
       apart = λ w. removed_apart c.self.inside.items.items _ c.args.place c.remove.ensures.items (c.self.invariant.apart w);

@@ -18,15 +18,15 @@ invariant_of-self c =
     let here : Row = c.index_mut.result.now in
     let is_here : get_or items c.args.place here ≡ here = search rules in
     let as_state : List Row → List Row = λ (xs : List Row). set xs c.args.place (with_state c.args.state (get_or xs c.args.place here)) in
-    let counts : AreCounted c.counts_as-self-inside.result (as_state items) =
-    subst (λ (xs : List Row). AreCounted c.counts_as-self-inside.result (as_state xs)) c.deref.ensures.value (c.counts_as-self-inside.ensures here) in
-    let counted : AreCounted c.counts_as-self-inside.result (set items c.args.place (with_state c.args.state here)) =
-    subst (λ (row : Row). AreCounted c.counts_as-self-inside.result (set items c.args.place (with_state c.args.state row))) is_here counts in
+    let counts : AreCounted c.count_change.new.counts (as_state items) =
+    subst (λ (xs : List Row). AreCounted c.count_change.new.counts (as_state xs)) c.deref.ensures.value (c.count_change.ensures here) in
+    let counted : AreCounted c.count_change.new.counts (set items c.args.place (with_state c.args.state here)) =
+    subst (λ (row : Row). AreCounted c.count_change.new.counts (set items c.args.place (with_state c.args.state row))) is_here counts in
     record {
       room = search rules;
       limit = search rules;
       counted = counted;
-      defined = c.defined_after-self-inside.ensures _ (sym counted.undefined) (set_but c.self.inside.items.items c.args.place c.self.inside.defined _ c.self.invariant.defined) c.index_mut.result.now
+      defined = c.defined_after-self-inside.ensures _ (sym (c.undefined.ensures _ counted)) (set_but c.self.inside.items.items c.args.place c.self.inside.defined _ c.self.invariant.defined) c.index_mut.result.now
           (ap (λ (r : Row). r.state) (get_or-set_same c.self.inside.items.items c.args.place (with_state c.args.state c.index_mut.result.now) c.index_mut.result.now (search rules)));
       within = set_within items c.args.place (with_state c.args.state here) _ c.self.inside.greatest _ (search rules) c.number-number.ensures c.self.invariant.within c.greatest_with-self-inside.ensures;
       apart = λ w. set_apart items c.args.place (with_state c.args.state here) _ (search rules) c.number-number.ensures (c.self.invariant.apart (c.stay_apart-self-inside.ensures.before w))

@@ -16,8 +16,8 @@ ready_all-requires-clause-slots g c =
     let slots = c.requires.slots in
     λ slot low below. subst (λ (o : Holding). Contains o.slots slot) (sym c.viewer-viewer.ensures.same) (c.named-words.ensures.slots slot low (omega (arith, slots, below)))
 
-pub make_hands-requires : goal.make_hands-requires
-make_hands-requires g c =
+pub make_hands-requires-clause-idle : goal.make_hands-requires-clause-idle
+make_hands-requires-clause-idle g c =
     let opened = c.in_ok-schedulers.ensures {u = tt} in
     subst (λ n. AllAt (IsIdle n) c.in_ok-schedulers.schedulers.items) (sym opened.count) (all_idle _ _ opened.opened)
 

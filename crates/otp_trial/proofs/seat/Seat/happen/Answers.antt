@@ -50,11 +50,11 @@ returns c =
     let then : Strain = c.strain_after-self-inside.result in
     let next : State = (step (state_of old) event).state in
     let flags : c.flags.result ≡ old.base.flags = c.flags.ensures ∙ sym (ap (λ (s : State). s.flags) c.self.invariant.base) in
-    let bore : then ≡ strained_by old.base.flags before_it c.args.time (step (state_of old) event) =
+    let bore : then ≡ strained_by old.base.flags before_it c.args.time c.args.kind (step (state_of old) event) =
     c.strain_after-self-inside.ensures
-    ∙ ap (λ (f : SupFlags). strained before_it c.args.time f (last_stamps (state_of after).flags.intensity (state_of after).stamps) after.effects) flags
-    ∙ ap (λ (s : State). strained before_it c.args.time old.base.flags (last_stamps s.flags.intensity s.stamps) after.effects) stepped
-    ∙ ap (λ (xs : List Effect). strained before_it c.args.time old.base.flags (last_stamps next.flags.intensity next.stamps) xs) orders in
+    ∙ ap (λ (f : SupFlags). strained before_it c.args.time c.args.kind f (last_stamps (state_of after).flags.intensity (state_of after).stamps) after.effects) flags
+    ∙ ap (λ (s : State). strained before_it c.args.time c.args.kind old.base.flags (last_stamps s.flags.intensity s.stamps) after.effects) stepped
+    ∙ ap (λ (xs : List Effect). strained before_it c.args.time c.args.kind old.base.flags (last_stamps next.flags.intensity next.stamps) xs) orders in
     let now : Seated = record { path = path; tells = tells; base = after.base; history = after.history; strain = then } in
     let P : Seated → Type 0 = λ p. Happens c.args.kind p now c.args.out.now.items c.tell.new.out.items in
     subst P c.self.view_is (

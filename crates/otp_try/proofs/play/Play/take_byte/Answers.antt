@@ -1,7 +1,6 @@
-use Rattle.std.proofs.Common.{List, refl}
+use Rattle.std.proofs.Common.{List}
 use Rattle.otp_trial.specs.Played.{Seated}
-use Rattle.otp_try.proofs.Pages.{adds_any, ran_adds, still_ran, stops_adds, wrote_adds}
-use Rattle.otp_try.proofs.Pieces.{adds_nothing}
+use Rattle.otp_try.proofs.Pages.{ran_adds, still_ran, stops_adds, wrote_adds}
 use Rattle.otp_try.proofs.play.Play.take_byte.Goals as goal
 
 pub returns-in-Ok : goal.returns-in-Ok
@@ -17,4 +16,4 @@ returns-in-Err g c =
 
 pub returns-then-byte-ne10 : goal.returns-then-byte-ne10
 returns-then-byte-ne10 g c =
-    ran_adds c.keep.result c.args.self.now.trial c.args.self.now.trial c.args.self.now.page.items c.args.self.now.page.items (g.W.Output.seen c.args.output.now).bytes (adds_any c.keep.result c.args.self.now.trial c.args.self.now.trial c.args.self.now.page.items c.args.self.now.page.items (adds_nothing c.args.self.now.trial c.args.self.now.trial c.args.self.now.page.items c.args.self.now.page.items refl refl))
+    ran_adds c.keep_byte.result c.args.self.now.trial c.keep_byte.new.self.trial c.args.self.now.page.items c.keep_byte.new.self.page.items (g.W.Output.seen c.args.output.now).bytes c.keep_byte.ensures

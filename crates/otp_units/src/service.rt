@@ -1,0 +1,297 @@
+//! What the file of commands says of a service.
+
+use crate::reading::{Setting, Unit, Units};
+use crate::time::time_in;
+use crate::words::{plain_value, without_signs};
+use otp_foreign::{ImportFault, Why, Work, number_in, write_number, write_text, write_words};
+
+/// A service: all units, and which it is.
+#[derive(Clone, Copy)]
+pub(crate) struct Service<'a> {
+    pub units: &'a Units,
+    pub unit: Unit,
+}
+
+impl Service<'_> {
+    /// The last setting of this key in its section of this name; none where that says nothing.
+    pub fn find_in(&self, text: &[u8], section: &[u8], key: &[u8]) -> Option<Setting> {
+        let mut found = None;
+        for number in self.unit.first..self.unit.last {
+            if let Some(setting) = self.units.settings.get(number) {
+                if setting.section.of(text) == section && setting.key.of(text) == key {
+                    found = Some(*setting);
+                }
+            }
+        }
+        let setting = found?;
+        if setting.value.of(text).is_empty() {
+            return None;
+        }
+        Some(setting)
+    }
+
+    /// The same in the section of the service.
+    pub fn find(&self, text: &[u8], key: &[u8]) -> Option<Setting> {
+        self.find_in(text, b"Service", key)
+    }
+
+    /// The value of a key, or nothing.
+    pub fn value<'t>(&self, text: &'t [u8], key: &[u8]) -> &'t [u8] {
+        match self.find(text, key) {
+            Some(setting) => setting.value.of(text),
+            None => b"",
+        }
+    }
+
+    /// The milliseconds of a key, or the usual ones; none where it is `infinity`.
+    pub fn time(&self, text: &[u8], key: &[u8], usual: u64) -> Result<Option<u64>, ImportFault> {
+        let Some(setting) = self.find(text, key) else {
+            return Ok(Some(usual));
+        };
+        let value = setting.value.of(text);
+        if value == b"infinity".as_slice() {
+            return Ok(None);
+        }
+        match time_in(value) {
+            Some(time) => Ok(Some(time)),
+            None => Err(ImportFault::At(setting.value.start, Why::BadTime)),
+        }
+    }
+
+    /// Whether it is started again after an end that isn't asked for.
+    pub fn is_restarted(&self, text: &[u8]) -> bool {
+        let word = self.value(text, b"Restart");
+        !word.is_empty() && word != b"no".as_slice() && word != b"on-success".as_slice()
+    }
+}
+
+/// Writes the text of a setting at a key, if there is one.
+fn put_setting(
+    work: &mut Work<'_>,
+    service: Service<'_>,
+    there: &[u8],
+    here: &str,
+) -> Result<(), ImportFault> {
+    if let Some(setting) = service.find(work.text, there) {
+        let value = plain_value(work, &setting)?;
+        work.command_text(here, value.as_slice())?;
+    }
+    Ok(())
+}
+
+/// Writes the words of a setting at a key, if there is one.
+fn put_words(
+    work: &mut Work<'_>,
+    service: Service<'_>,
+    there: &[u8],
+    here: &str,
+) -> Result<(), ImportFault> {
+    if let Some(setting) = service.find(work.text, there) {
+        let value = plain_value(work, &setting)?;
+        work.begin_command(here)?;
+        write_words(
+            value.as_slice(),
+            setting.value.start,
+            false,
+            &mut work.commands,
+        )?;
+    }
+    Ok(())
+}
+
+/// Writes what a service runs.
+fn put_command(work: &mut Work<'_>, service: Service<'_>) -> Result<(), ImportFault> {
+    let Some(setting) = service.find(work.text, b"ExecStart") else {
+        return Err(ImportFault::At(service.unit.name.start, Why::NoCommand));
+    };
+    let value = plain_value(work, &setting)?;
+    let command = without_signs(value.as_slice());
+    if command.len() < value.as_slice().len() {
+        work.remark(
+            setting.value.start,
+            "",
+            b"",
+            "the signs before this command have no counterpart, and are left out",
+        )?;
+    }
+    work.begin_command("command")?;
+    write_words(command, setting.value.start, false, &mut work.commands)
+}
+
+/// Writes the variables of a service, each line's behind the others'.
+fn put_variables(work: &mut Work<'_>, service: Service<'_>) -> Result<(), ImportFault> {
+    let mut all = Vec::new(work.alloc);
+    let mut place = 0;
+    for number in service.unit.first..service.unit.last {
+        if let Some(setting) = service.units.settings.get(number) {
+            if setting.key.of(work.text) == b"Environment".as_slice() {
+                let value = plain_value(work, setting)?;
+                all.extend_from_slice(value.as_slice())?;
+                all.extend_from_slice(b" ")?;
+                place = setting.value.start;
+            }
+        }
+    }
+    if all.is_empty() {
+        return Ok(());
+    }
+    work.begin_command("env")?;
+    write_words(all.as_slice(), place, false, &mut work.commands)
+}
+
+/// Writes when a service counts as started.
+fn put_ready(work: &mut Work<'_>, service: Service<'_>) -> Result<(), ImportFault> {
+    let Some(setting) = service.find(work.text, b"Type") else {
+        return Ok(());
+    };
+    match setting.value.of(work.text) {
+        b"simple" | b"exec" => {}
+        b"notify" | b"notify-reload" => {
+            work.command_word("ready", "\"sd_notify\"")?;
+            if let Some(time) = service.time(work.text, b"TimeoutStartSec", 90_000)? {
+                work.command_number("ready_within", time)?;
+            } else {
+                work.command_word("ready_within", "\"infinity\"")?;
+            }
+        }
+        b"forking" => work.remark(
+            setting.value.start,
+            "",
+            b"",
+            "a program that makes itself a daemon has to be told not to",
+        )?,
+        word => work.remark(
+            setting.value.start,
+            "Type=",
+            word,
+            ": it has no counterpart; the service counts as started at once",
+        )?,
+    }
+    Ok(())
+}
+
+/// Writes how a service is started again.
+fn put_restart(work: &mut Work<'_>, service: Service<'_>) -> Result<(), ImportFault> {
+    if !service.is_restarted(work.text) {
+        return Ok(());
+    }
+    let time = service
+        .time(work.text, b"RestartSec", 100)?
+        .unwrap_or(60_000);
+    work.begin_command("restart_after")?;
+    work.commands.extend_from_slice(b"[\"")?;
+    write_number(time, &mut work.commands)?;
+    work.commands.extend_from_slice(b"ms\", \"")?;
+    write_number(time.max(60_000), &mut work.commands)?;
+    work.commands.extend_from_slice(b"ms\"]\n")?;
+    if service.value(work.text, b"Restart") == b"always".as_slice() {
+        work.command_word("restart_always", "true")?;
+    }
+    work.command_number("give_up_after", burst_of(work.text, service)?)?;
+    work.command_word("on_give_up", "\"hold\"")?;
+    Ok(())
+}
+
+/// How many starts in a row are tried.
+fn burst_of(text: &[u8], service: Service<'_>) -> Result<u64, ImportFault> {
+    let Some(setting) = service.find_in(text, b"Unit", b"StartLimitBurst") else {
+        return Ok(5);
+    };
+    match number_in(setting.value.of(text)) {
+        Some(number) => Ok(number.max(1)),
+        None => Err(ImportFault::At(setting.value.start, Why::BadNumber)),
+    }
+}
+
+/// Writes where what a service writes goes.
+fn put_output(work: &mut Work<'_>, service: Service<'_>) -> Result<(), ImportFault> {
+    let Some(setting) = service.find(work.text, b"StandardOutput") else {
+        work.command_word("output", "\"journal\"")?;
+        return Ok(());
+    };
+    match setting.value.of(work.text) {
+        b"journal" | b"journal+console" => work.command_word("output", "\"journal\"")?,
+        b"syslog" => work.command_word("output", "\"syslog\"")?,
+        b"null" => work.command_word("output", "\"null\"")?,
+        b"inherit" => work.command_word("output", "\"inherit\"")?,
+        word => match word.strip_prefix(b"append:") {
+            Some(file) => {
+                work.command_word("output", "\"file\"")?;
+                work.command_text("output_file", file)?;
+            }
+            None => work.remark(
+                setting.value.start,
+                "StandardOutput=",
+                word,
+                ": it has no counterpart, and is left out",
+            )?,
+        },
+    }
+    Ok(())
+}
+
+/// Writes by which signal a service is asked to end, and who gets it.
+fn put_signal(work: &mut Work<'_>, service: Service<'_>) -> Result<(), ImportFault> {
+    let word = service.value(work.text, b"KillSignal");
+    let word = word.strip_prefix(b"SIG").unwrap_or(word);
+    if !word.is_empty() {
+        work.command_text("signal", word)?;
+    }
+    if service.value(work.text, b"KillMode") == b"process".as_slice() {
+        work.command_word("signal_to", "\"process\"")?;
+    }
+    if service.value(work.text, b"NoNewPrivileges") == b"true".as_slice()
+        || service.value(work.text, b"NoNewPrivileges") == b"yes".as_slice()
+    {
+        work.command_word("no_new_privileges", "true")?;
+    }
+    Ok(())
+}
+
+/// Writes how many descriptors a service may have open.
+fn put_limit(work: &mut Work<'_>, service: Service<'_>) -> Result<(), ImportFault> {
+    let value = service.value(work.text, b"LimitNOFILE");
+    if value.is_empty() {
+        return Ok(());
+    }
+    let mut limit = Vec::from_slice(work.alloc, b"nofile=")?;
+    limit.extend_from_slice(value)?;
+    work.begin_command("limits")?;
+    work.commands.extend_from_slice(b"[")?;
+    write_text(limit.as_slice(), &mut work.commands)?;
+    work.commands.extend_from_slice(b"]\n")?;
+    Ok(())
+}
+
+/// Writes the watchdog's time, if there is one.
+fn put_watchdog(work: &mut Work<'_>, service: Service<'_>) -> Result<(), ImportFault> {
+    if let Some(time) = service.time(work.text, b"WatchdogSec", 0)? {
+        if time > 0 {
+            work.command_number("watchdog", time)?;
+        }
+    }
+    Ok(())
+}
+
+/// Writes the table of a service, whose start word is this one.
+pub(crate) fn put_service(
+    work: &mut Work<'_>,
+    service: Service<'_>,
+    word: &[u8],
+) -> Result<(), ImportFault> {
+    work.command_head(word)?;
+    put_command(work, service)?;
+    put_setting(work, service, b"WorkingDirectory", "folder")?;
+    put_variables(work, service)?;
+    put_setting(work, service, b"EnvironmentFile", "env_file")?;
+    put_setting(work, service, b"User", "user")?;
+    put_setting(work, service, b"Group", "group")?;
+    put_words(work, service, b"SupplementaryGroups", "groups")?;
+    put_setting(work, service, b"UMask", "umask")?;
+    put_limit(work, service)?;
+    put_output(work, service)?;
+    put_ready(work, service)?;
+    put_watchdog(work, service)?;
+    put_restart(work, service)?;
+    put_signal(work, service)
+}

@@ -1,0 +1,3 @@
+module example.invalid/otp/supervision
+
+go 1.19

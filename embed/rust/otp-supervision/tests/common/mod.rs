@@ -1,0 +1,3 @@
+//! What several tests use, those of `otp-procs` too.
+
+pub mod script;

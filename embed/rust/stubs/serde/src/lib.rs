@@ -1,0 +1,1 @@
+//! Nothing: it stands for serde where cargo can ask no registry.

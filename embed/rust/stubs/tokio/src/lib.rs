@@ -1,0 +1,1 @@
+//! Nothing: it stands for tokio where cargo can ask no registry.
