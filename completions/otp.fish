@@ -2,7 +2,7 @@
 set -l commands check diff import limits replay run shutdown sim suggest tree try help
 complete -c otp -f -n "not __fish_seen_subcommand_from $commands" -a check -d 'Says all that is wrong in tree files, and where'
 complete -c otp -f -n "not __fish_seen_subcommand_from $commands" -a diff -d 'What differs in two tree files, and in what each failure costs'
-complete -c otp -f -n "not __fish_seen_subcommand_from $commands" -a import -d 'Makes a tree file of what Erlang, Elixir, supervisord or systemd says'
+complete -c otp -f -n "not __fish_seen_subcommand_from $commands" -a import -d 'Makes a tree of what Erlang, Elixir, supervisord or systemd says'
 complete -c otp -f -n "not __fish_seen_subcommand_from $commands" -a limits -d 'Says what each child\'s failure costs: which crashes are survived'
 complete -c otp -f -n "not __fish_seen_subcommand_from $commands" -a replay -d 'What a tree would have done, had happened to it what a log tells'
 complete -c otp -f -n "not __fish_seen_subcommand_from $commands" -a run -d 'Runs a tree on threads: each child does what its start says'

@@ -83,7 +83,7 @@ pub(crate) const LOG_FILE_HELP: &str = "The log; - is standard input, up to 1 Mi
 pub(crate) const UNMATCHED_HELP: &str = "Lists the lines of the log that weren't played";
 
 pub(crate) const IMPORT_ABOUT: &str =
-    "Makes a tree file of what Erlang, Elixir, supervisord or systemd says";
+    "Makes a tree of what Erlang, Elixir, supervisord or systemd says";
 
 pub(crate) const IMPORT_EXAMPLE: &str =
     "Example: escript examples/walk.escript kernel | otp import - > kernel.toml\nFILE is a term, as {ok, {SupFlags, ChildSpecs}}, the file of supervisord, or\nunits as systemctl cat prints them. On standard error stands what has no\ncounterpart: FILE:LINE:COLUMN: what it is.\nStatuses: 0 it was written, 1 FILE says no tree or can't be read, 2 the words, 4\noutput or memory.\nFormats: docs/FORMATS.md, under Imports; docs/FROM.md says what becomes of what.";
