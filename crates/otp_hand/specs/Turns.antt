@@ -1,5 +1,6 @@
 -- What a turn of a hand does with the process that it has out. (own)
 use Rattle.std.specs.Prelude.{◌≡◌, ◌⊎◌, ◌≢◌, ℕ, ◌-◌, ◌^◌, ◌<◌, ◌≤◌, Bool, List, [], ◌∷◌, ◌++◌, Option, Some, None, MatchOption}
+use Rattle.otp_job.specs.Places.{PlaceView}
 use Rattle.otp_job.specs.Processes.{IsRunnable, ProcessState, nested_table_of}
 use Rattle.otp_job.specs.Turns.{FirstTurn, LaterTurn}
 use Rattle.otp_job.specs.declared.body.Body.{Body}
@@ -15,6 +16,7 @@ use Rattle.otp_reason.specs.declared.note.Started.{Started}
 use Rattle.otp_rules.specs.declared.event.Item.TheVariants as item
 use Rattle.otp_run.specs.declared.scheduler.TheConstants.{SHARE_LIMIT}
 use Rattle.otp_signals.specs.Signals.{Looked}
+use Rattle.otp_waiting.specs.declared.resting.Rested.{Rested}
 use Rattle.otp_signals.specs.declared.signal.Signal.{Signal}
 use Rattle.otp_signals.specs.declared.signal.Signal.TheVariants as signal
 use Rattle.otp_hand.specs.Hands.{RunnerView}
@@ -68,28 +70,32 @@ module _ {J S : Type 0} where
   IsAfter ticket (after.Begun p note) old new = (new.turning ≡ Some p) × (new.waiting ≡ old.waiting) × (new.unsent ≡ Some (unsent_by ticket note None))
   IsAfter ticket (after.Done end spent) old new = (new.turning ≡ None) × (new.waiting ≡ old.waiting) × (new.unsent ≡ Some (unsent_by ticket end.note (Some end.body)))
 
+  -- the supervisor's process waits from now on, with what it waits for; or memory was refused, and it is still out
+  abbrev pub Rests : Rested J S → RunnerView J S → RunnerView J S → Type 0
+  Rests r old new = MatchOption new.turning (new.resting ≡ old.resting ++ r ∷ []) (λ p. (p ≡ r.process) × (new.resting ≡ old.resting))
+
   -- a worker or a bridge has a turn, unless the hand has counted as many ends as it can
   pub record MayWork (p : ProcessState J S) (r : RunnerView J S) : Type 0 where
     pub runs : IsRunnable p.body
     pub room : r.scheduler.ended < SHARE_LIMIT
 
-  -- the process had one turn, in which it was told this, and what is there now is what that left
-  pub record HadOneTurn (started : J → ℕ → Started → J → Type 0) (inited : S → Started → S → Type 0) (traps : J → Bool) (turned : J → Told → Turn → J → Type 0) (polled : S → Option Reason → S → Type 0) (terminated : S → Reason → S → Type 0)
-      (told : Signal) (p : ProcessState J S) (old new : RunnerView J S) : Type 0 where
+  -- the process had one turn, at this reading of the clock, in which it was told this, and what is there now is what that left
+  pub record HadOneTurn (started : J → PlaceView → Started → J → Type 0) (inited : S → Started → S → Type 0) (traps : J → Bool) (turned : J → Told → Turn → J → Type 0) (polled : S → Option Reason → S → Type 0) (terminated : S → Reason → S → Type 0)
+      (told : Signal) (reading : ℕ) (p : ProcessState J S) (old new : RunnerView J S) : Type 0 where
     pub after : After J S
-    pub first : p.phase ≡ Fresh → FirstTurn started inited p.ticket p.body after
+    pub first : p.phase ≡ Fresh → FirstTurn started inited p.ticket reading p.body after
     pub later : p.phase ≢ Fresh → LaterTurn traps turned polled terminated p.ticket p.phase told p.body after
     pub gives : IsAfter p.ticket after old new
 
   -- it had one, where it may have one; and else it is still out
-  abbrev pub Worked : (J → ℕ → Started → J → Type 0) → (S → Started → S → Type 0) → (J → Bool) → (J → Told → Turn → J → Type 0) → (S → Option Reason → S → Type 0) → (S → Reason → S → Type 0) → Signal → ProcessState J S → RunnerView J S → RunnerView J S → Type 0
-  Worked started inited traps turned polled terminated told p old new =
-      HadOneTurn started inited traps turned polled terminated told p old new ⊎ ((MayWork p old → ⊥) × (new.turning ≡ Some p) × (new.unsent ≡ None))
+  abbrev pub Worked : (J → PlaceView → Started → J → Type 0) → (S → Started → S → Type 0) → (J → Bool) → (J → Told → Turn → J → Type 0) → (S → Option Reason → S → Type 0) → (S → Reason → S → Type 0) → Signal → ℕ → ProcessState J S → RunnerView J S → RunnerView J S → Type 0
+  Worked started inited traps turned polled terminated told reading p old new =
+      HadOneTurn started inited traps turned polled terminated told reading p old new ⊎ ((MayWork p old → ⊥) × (new.turning ≡ Some p) × (new.unsent ≡ None))
 
   -- the same, told what its supervisor posted for it
-  pub record WorkedAsTold (started : J → ℕ → Started → J → Type 0) (inited : S → Started → S → Type 0) (traps : J → Bool) (turned : J → Told → Turn → J → Type 0) (polled : S → Option Reason → S → Type 0) (terminated : S → Reason → S → Type 0)
-      (slots : ℕ) (p : ProcessState J S) (old new : RunnerView J S) : Type 0 where
+  pub record WorkedAsTold (started : J → PlaceView → Started → J → Type 0) (inited : S → Started → S → Type 0) (traps : J → Bool) (turned : J → Told → Turn → J → Type 0) (polled : S → Option Reason → S → Type 0) (terminated : S → Reason → S → Type 0)
+      (slots reading : ℕ) (p : ProcessState J S) (old new : RunnerView J S) : Type 0 where
     pub told : Signal
     pub mid : RunnerView J S
     pub looked : IsTold slots p.ticket told old.looks mid.looks
-    pub turn : Worked started inited traps turned polled terminated told p mid new
+    pub turn : Worked started inited traps turned polled terminated told reading p mid new

@@ -1,7 +1,8 @@
 //! What one thread needs to serve a tree.
-ghost use Rattle.std.specs.Prelude.{◌≡◌, ◌↔◌, ◌<◌, None, Some, is_some, true, IfNone, IfSome, length};
+ghost use Rattle.std.specs.Prelude.{◌≡◌, ◌↔◌, ◌<◌, None, Some, is_some, true, IfNone, IfSome, IsTrue, length};
 ghost use Rattle.otp_hand.specs.Readings.{HasRead};
 ghost use Rattle.otp_hand.specs.Standings.{standing_of};
+ghost use Rattle.otp_waiting.specs.Deadlines.{IsDue, least_due};
 
 use crate::naming::TreeNaming;
 use crate::reading::read_at;
@@ -53,7 +54,9 @@ impl<N: TreeNaming, J: Drop, S: Drop> Hand<N, J, S> {
     }
 
     /// The least deadline for which one of its supervisors waits, as a reading of the clock. None where none has one.
-    pub fn next_due(&self) -> Option<u64> {
+    pub fn next_due(&self) -> Option<u64>
+        ensures { result ≡ least_due self.now.resting }
+    {
         self.runner.resting.next_due()
     }
 
@@ -78,6 +81,7 @@ impl<N: TreeNaming, J: Drop, S: Drop> Hand<N, J, S> {
     /// Whether a search may find something at this reading of the clock, though nothing has changed since one that gave nothing: a
     /// deadline has come, something was refused for want of memory, or it is time to try the deques of other hands again.
     pub fn may_find(&mut self, reading: u64) -> bool
+        ensures due { IsDue (least_due self.old.resting) reading → IsTrue result }
         ensures unsent { self.new.unsent ≡ self.old.unsent }
         ensures passes { self.new.passes ≡ self.old.passes }
         ensures standing { standing_of self.new ≡ standing_of self.old }

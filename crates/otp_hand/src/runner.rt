@@ -6,7 +6,7 @@ ghost use Rattle.otp_rules.specs.declared.event.Item.TheVariants as item;
 ghost use Rattle.otp_hand.specs.Begun.{NoneBegan};
 ghost use Rattle.otp_hand.specs.Ended.{NoneEnded, ends_held};
 ghost use Rattle.otp_hand.specs.Hands.{one_if};
-ghost use Rattle.otp_hand.specs.Turns.{IsTold, WorkedAsTold, nested_by, table_above, table_nested};
+ghost use Rattle.otp_hand.specs.Turns.{IsTold, Rests, WorkedAsTold, nested_by, table_above, table_nested};
 
 use crate::places::put_into;
 use otp_bridge::Subsystem;
@@ -374,6 +374,10 @@ impl<N: WordsNaming + RunNaming, J: Drop, S: Drop> Runner<N, J, S> {
     /// Lets the supervisor's process that it has out wait, until there is a letter or another signal than this one, or the reading
     /// of the clock has come to this deadline. Where memory is refused it goes on.
     pub fn rest(&mut self, table: usize, told: Signal, due: Option<u64>)
+        // What it waits for is kept with it.
+        ensures rests { IfSome self.old.turning (λ p. Rests (record { process = p; table = table; told = told; due = due }) self.old self.new) }
+        ensures scheduler { self.new.scheduler ≡ self.old.scheduler }
+        ensures refusals { self.new.refusals ≡ self.old.refusals }
         ensures unsent { self.new.unsent ≡ self.old.unsent }
         ensures begun { NoneBegan self.old.scheduler self.new.scheduler }
         ensures ended { NoneEnded self.old.scheduler self.new.scheduler }
@@ -391,9 +395,8 @@ impl<N: WordsNaming + RunNaming, J: Drop, S: Drop> Runner<N, J, S> {
             told,
             due,
         };
-        if let Some(back) = self.resting.keep(rested) {
-            put_into(&mut self.turning, Some(back.process));
-        }
+        let unkept = keep_resting(&mut self.resting, rested);
+        put_into(&mut self.turning, unkept);
     }
 
     /// Puts the process that it has out back into its deque, or aside where that has enough of them; a supervisor's never stands
@@ -514,6 +517,7 @@ impl<N: WordsNaming + RunNaming, J: Drop, S: Drop> Runner<N, J, S> {
     /// What the process that it has out is told by its supervisor: what the word of its slot says for its number.
     pub fn look(&mut self, words: &Words<N>) -> Signal
         ensures told { IfSome self.old.turning (λ p. IsTold words.now p.ticket result self.old.looks self.new.looks) }
+        ensures same { self.new ≡ record self.old { looks = self.new.looks } }
         ensures turning { self.new.turning ≡ self.old.turning }
         ensures unsent { self.new.unsent ≡ self.old.unsent }
         ensures begun { NoneBegan self.old.scheduler self.new.scheduler }
@@ -538,7 +542,7 @@ impl<N: WordsNaming + RunNaming, J: Job, S: Subsystem> Runner<N, J, S> {
         ensures begun { NoneBegan self.old.scheduler self.new.scheduler }
         // It ended exactly where its end note is to be sent.
         ensures ended { self.new.scheduler.ended ≡ self.old.scheduler.ended + ends_held self.new.unsent }
-        ensures turn { IfSome self.old.turning (λ p. WorkedAsTold J.started S.inited J.is_trapping J.turned S.polled S.terminated words.now p self.old self.new) }
+        ensures turn { IfSome self.old.turning (λ p. WorkedAsTold J.started S.inited J.is_trapping J.turned S.polled S.terminated words.now reading p self.old self.new) }
     {
         let told = self.look(words);
         let Some(process) = self.turning.take() else {
@@ -587,6 +591,19 @@ fn keep_waiting<J: Drop, S: Drop>(
         waiting.keep(process)
     } else {
         Some(process)
+    }
+}
+
+/// Lets a supervisor's process wait. It comes back where memory is refused.
+fn keep_resting<J: Drop, S: Drop>(
+    resting: &mut Resting<J, S>,
+    rested: Rested<J, S>,
+) -> Option<Process<J, S>>
+    ensures { MatchOption result (resting.new ≡ resting.old ++ rested ∷ []) (λ back. (back ≡ rested.process) × (resting.new ≡ resting.old)) }
+{
+    match resting.keep(rested) {
+        Some(back) => Some(back.process),
+        None => None,
     }
 }
 

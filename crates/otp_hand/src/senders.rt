@@ -11,6 +11,7 @@ ghost use Rattle.otp_rules.specs.declared.event.Item.TheVariants as item;
 ghost use Rattle.otp_rules.specs.Homes.{is_start_call};
 ghost use Rattle.otp_bodies.specs.declared.letter.Message.{Message};
 ghost use Rattle.otp_bodies.specs.Messages.{message, plain_message};
+ghost use Rattle.otp_sup.specs.Turns.{HadTurn};
 
 use crate::places::body_in;
 use otp_inbox::{Inbox, InboxNaming, Sender};
@@ -97,6 +98,8 @@ impl<N: InboxNaming, B: Drop> Senders<N, B> {
         // It sends nothing.
         ensures ends { ends_sent self.new ≡ ends_sent self.old }
         ensures parts { parts_in self.new ≡ parts_in self.old }
+        // One table of this number had the turn, so told, numbered and timed.
+        ensures turn { HadTurn N.plan sup.now.inbox number reading told result (P.processes port.old) (P.notes port.old) (P.refusals port.old) (P.processes port.new) (P.notes port.new) (P.refusals port.new) }
     {
         let place = sup.inbox().number();
         let sender = &mut self.list[place];

@@ -24,6 +24,7 @@ use Rattle.otp_job.specs.declared.process.ProcessPhase.TheVariants as phase
 use Rattle.otp_job.specs.declared.process.Ticket.{Ticket}
 use Rattle.otp_job.specs.declared.turn.After.{After}
 use Rattle.otp_job.specs.declared.turn.After.TheVariants as after
+use Rattle.otp_job.specs.Places.{PlaceView, place_of}
 use Rattle.otp_job.specs.Processes.{process_at}
 
 module _ {J S : Type 0} where
@@ -51,10 +52,10 @@ module _ {J S : Type 0} where
   after_bridge ticket phase None body = after.Again (process_at ticket phase body)
   after_bridge ticket phase (Some reason) body = exited ticket reason body
 
-  -- one call of `start`, with the process's number; the body that goes on or home is what it left
-  abbrev pub StartsJob : (J → ℕ → Started → J → Type 0) → Ticket → J → After J S → Type 0
-  StartsJob started ticket job after =
-      (answer : Started) × (left : J) × started job ticket.number answer left × (after ≡ after_start ticket answer (body.Worker left))
+  -- one call of `begin`, in the place of this process at this reading; the body that goes on or home is what it left
+  abbrev pub StartsJob : (J → PlaceView → Started → J → Type 0) → Ticket → ℕ → J → After J S → Type 0
+  StartsJob started ticket reading job after =
+      (answer : Started) × (left : J) × started job (place_of ticket reading) answer left × (after ≡ after_start ticket answer (body.Worker left))
 
   -- one call of `turn`, in which the job is told this
   abbrev pub TellsJob : (J → Told → Turn → J → Type 0) → Ticket → ProcessPhase → Told → J → After J S → Type 0
@@ -85,12 +86,12 @@ module _ {J S : Type 0} where
   TurnsBridge polled terminated ticket phase signal bridge after =
       (ended : Option Reason) × (left : BridgeState S) × Turns polled terminated signal bridge ended left × (after ≡ after_bridge ticket phase ended (body.Bridge left))
 
-  -- the first turn of a process that is runnable
-  abbrev pub FirstTurn : (J → ℕ → Started → J → Type 0) → (S → Started → S → Type 0) → Ticket → Option (Body J S) → After J S → Type 0
-  FirstTurn started inited ticket (Some (body.Worker job)) after = StartsJob started ticket job after
-  FirstTurn started inited ticket (Some (body.Bridge bridge)) after = StartsBridge inited ticket bridge after
-  FirstTurn started inited ticket (Some (body.Sup _)) after = ⊤
-  FirstTurn started inited ticket None after = ⊤
+  -- the first turn of a process that is runnable, at this reading of the clock
+  abbrev pub FirstTurn : (J → PlaceView → Started → J → Type 0) → (S → Started → S → Type 0) → Ticket → ℕ → Option (Body J S) → After J S → Type 0
+  FirstTurn started inited ticket reading (Some (body.Worker job)) after = StartsJob started ticket reading job after
+  FirstTurn started inited ticket reading (Some (body.Bridge bridge)) after = StartsBridge inited ticket bridge after
+  FirstTurn started inited ticket reading (Some (body.Sup _)) after = ⊤
+  FirstTurn started inited ticket reading None after = ⊤
 
   -- each later turn
   abbrev pub LaterTurn : (J → Bool) → (J → Told → Turn → J → Type 0) → (S → Option Reason → S → Type 0) → (S → Reason → S → Type 0) → Ticket → ProcessPhase → Signal → Option (Body J S) → After J S → Type 0

@@ -9,7 +9,7 @@ impl Job for Box<dyn Job, Global> {
 
     ghost is_trapping = { λ b. (Job-box b).is_trapping b.value };
 
-    ghost started = { λ b number answer after. (value : _) × (after ≡ record b { value = value }) × (Job-box b).started b.value number answer value };
+    ghost started = { λ b place answer after. (value : _) × (after ≡ record b { value = value }) × (Job-box b).started b.value place answer value };
 
     ghost turned = { λ b told answer after. (value : _) × (after ≡ record b { value = value }) × (Job-box b).turned b.value told answer value };
 

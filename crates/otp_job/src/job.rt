@@ -54,17 +54,19 @@ pub enum Turn {
 /// # The relations
 ///
 /// `is_trapping`, `started` and `turned` say what a call did: that the job `before`, in one call, gave this answer and
-/// was left as `after`. They are for contracts alone. The last two have a default that says nothing, so a job need not
-/// write them. A contract above that speaks of one such fact can be met by one call, and by no more and no fewer.
+/// was left as `after`. `started` tells besides in which place that was. They are for contracts alone. The last two have a default
+/// that says nothing, so a job need not write them. A contract above that speaks of one such fact can be met by one call, and by no
+/// more and no fewer.
 pub trait Job: Send + Drop {
     ghost use Rattle.std.specs.Prelude.{◌≡◌, ℕ, ⊤, Bool};
     ghost use Rattle.otp_reason.specs.declared.note.Started.{Started};
     ghost use Rattle.otp_job.specs.declared.job.Told.{Told};
     ghost use Rattle.otp_job.specs.declared.job.Turn.{Turn};
+    ghost use Rattle.otp_job.specs.Places.{PlaceView};
 
     ghost is_trapping: { Self → Bool };
 
-    ghost started: { Self → ℕ → Started → Self → Type 0 } = { λ before number answer after. ⊤ };
+    ghost started: { Self → PlaceView → Started → Self → Type 0 } = { λ before place answer after. ⊤ };
 
     ghost turned: { Self → Told → Turn → Self → Type 0 } = { λ before told answer after. ⊤ };
 
@@ -72,14 +74,14 @@ pub trait Job: Send + Drop {
     fn traps(&self) -> bool
         ensures { result ≡ is_trapping self.now };
 
-    /// Starts it, as the process with this number.
+    /// Starts it, as the process with this number, wherever that is.
     fn start(&mut self, number: u64) -> Started
-        ensures { started self.old number result self.new };
+        ensures { (place : PlaceView) → place.number ≡ number → started self.old place result self.new };
 
     /// Starts it in this place: what a process calls. A job that needs more than its number, as a waker or the time, writes this
     /// one, and its `start` is what it does where it is started without a place.
     fn begin(&mut self, place: &Place<'_>) -> Started
-        ensures { started self.old place.now.number result self.new }
+        ensures { started self.old (record { number = place.now.number; slot = place.now.slot; table = place.now.table; id = place.now.id; reading = place.now.reading }) result self.new }
     {
         self.start(place.number)
     }

@@ -1,4 +1,6 @@
 //! Where a job runs.
+ghost use Rattle.std.specs.Prelude.{◌≡◌};
+
 use otp_reason::Name;
 use otp_wake::{Post, Waker};
 use std::sync::Arc;
@@ -54,7 +56,9 @@ pub struct Site<'a> {
 
 impl Site<'_> {
     /// At no time, and where no job can be woken: for whoever steps processes by hand.
-    pub fn nowhere() -> Site<'static> {
+    pub fn nowhere() -> Site<'static>
+        ensures { result.reading ≡ 0 }
+    {
         Site {
             reading: 0,
             post: None,

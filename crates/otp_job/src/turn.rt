@@ -45,7 +45,7 @@ pub enum After<J: Drop, S: Drop> {
 /// with no signal a job has its turn and a bridge looks after its subsystem.
 pub fn one_turn<J: Job, S: Subsystem>(process: Process<J, S>, signal: Signal) -> After<J, S>
     requires { IsRunnable process.body }
-    ensures first { process.phase ≡ Fresh → FirstTurn J.started S.inited process.ticket process.body result }
+    ensures first { process.phase ≡ Fresh → FirstTurn J.started S.inited process.ticket 0 process.body result }
     ensures later { process.phase ≢ Fresh → LaterTurn J.is_trapping J.turned S.polled S.terminated process.ticket process.phase signal process.body result }
 {
     one_turn_at(process, signal, &Site::nowhere())
@@ -58,7 +58,7 @@ pub fn one_turn_at<J: Job, S: Subsystem>(
     site: &Site<'_>,
 ) -> After<J, S>
     requires { IsRunnable process.body }
-    ensures first { process.phase ≡ Fresh → FirstTurn J.started S.inited process.ticket process.body result }
+    ensures first { process.phase ≡ Fresh → FirstTurn J.started S.inited process.ticket site.now.reading process.body result }
     ensures later { process.phase ≢ Fresh → LaterTurn J.is_trapping J.turned S.polled S.terminated process.ticket process.phase signal process.body result }
 {
     let Process { mut inside } = process;
@@ -92,7 +92,7 @@ fn later_turn<J: Job, S: Subsystem>(
 }
 
 fn start_job<J: Job, S: Drop>(inside: Emptied<J, S>, mut job: J, site: &Site<'_>) -> After<J, S>
-    ensures { StartsJob J.started inside.value.ticket job result }
+    ensures { StartsJob J.started inside.value.ticket site.now.reading job result }
 {
     let Ticket {
         number,

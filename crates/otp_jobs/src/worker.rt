@@ -92,7 +92,7 @@ impl Job for WorkedJob {
 
     ghost is_trapping = { λ job. traps job.work };
 
-    ghost started = { λ before number answer after.
+    ghost started = { λ before place answer after.
         (answer ≡ answer_of before.work) × (after ≡ record before { life = life_after before.life }) };
 
     ghost turned = { λ before told answer after. (answer ≡ turn_of before.work before.life) × (after ≡ before) };

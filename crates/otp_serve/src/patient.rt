@@ -26,7 +26,7 @@ pub struct PatientJob {
 impl Job for PatientJob {
     ghost is_trapping = { λ patient. traps patient.job.work };
 
-    ghost started = { λ before number answer after.
+    ghost started = { λ before place answer after.
         (answer ≡ answer_of before.job.work) × (after.job ≡ record before.job { life = life_after before.job.life }) };
 
     ghost turned = { λ before told answer after.

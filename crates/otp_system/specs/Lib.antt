@@ -1,4 +1,5 @@
 pub mod Hearings
 pub mod Happenings
 pub mod Servings
+pub mod Supervised
 pub mod Callings

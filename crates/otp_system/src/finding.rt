@@ -1,6 +1,8 @@
 //! Which process has a hand's next turn.
 ghost use Rattle.std.specs.Prelude.{◌≡◌, ◌<◌, ◌≤◌, length, is_some, true, None, IfSome, IsTrue};
+ghost use Rattle.otp_hand.specs.Begun.{NoneBegan};
 ghost use Rattle.otp_hand.specs.Standings.{standing_of};
+ghost use Rattle.otp_waiting.specs.Deadlines.{IsDue};
 
 use crate::system::System;
 use otp_hand::{Hand, Senders, Shared};
@@ -22,6 +24,7 @@ impl<N: SupNaming, J: Drop, S: Drop> System<N, J, S> {
     where
         N: RunNaming,
         ensures found { IsTrue result → is_some hand.new.turning ≡ true }
+        ensures begun { NoneBegan hand.old.scheduler hand.new.scheduler }
         ensures unsent { hand.new.unsent ≡ hand.old.unsent }
         ensures passes { hand.new.passes ≡ hand.old.passes }
         ensures standing { standing_of hand.new ≡ standing_of hand.old }
@@ -54,6 +57,7 @@ impl<N: SupNaming, J: Drop, S: Drop> System<N, J, S> {
     where
         N: RunNaming,
         requires { hand.old.turning ≡ None }
+        ensures begun { NoneBegan hand.old.scheduler hand.new.scheduler }
         ensures unsent { hand.new.unsent ≡ hand.old.unsent }
         ensures passes { hand.new.passes ≡ hand.old.passes }
         ensures standing { standing_of hand.new ≡ standing_of hand.old }
@@ -73,6 +77,7 @@ impl<N: SupNaming, J: Drop, S: Drop> System<N, J, S> {
         N: RunNaming,
         requires free { hand.old.turning ≡ None }
         requires there { to ≤ length hand.old.resting }
+        ensures begun { NoneBegan hand.old.scheduler hand.new.scheduler }
         ensures unsent { hand.new.unsent ≡ hand.old.unsent }
         ensures passes { hand.new.passes ≡ hand.old.passes }
         ensures standing { standing_of hand.new ≡ standing_of hand.old }
@@ -120,7 +125,8 @@ fn has_come<N: SupNaming, J: Drop, S: Drop>(
     rested: &Rested<J, S>,
     reading: u64,
 ) -> bool
-    ensures { senders.new ≡ senders.old }
+    ensures senders { senders.new ≡ senders.old }
+    ensures due { IsDue rested.now.due reading → IsTrue result }
 {
     if is_due(rested.due, reading) {
         return true;

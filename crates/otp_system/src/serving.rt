@@ -1,8 +1,11 @@
 //! How a hand serves a tree: a turn at a time.
-ghost use Rattle.std.specs.Prelude.{◌≤◌, ◌≡◌, IsTrue, None, Some};
+ghost use Rattle.std.specs.Prelude.{◌≤◌, ◌<◌, ◌≡◌, IsTrue, IfSome, None, Ok, Some, is_some, length, true};
 ghost use Rattle.otp_spec.specs.declared.limits.TheConstants.{MAX_READING};
+ghost use Rattle.otp_office.specs.declared.turns.TurnAnswer.TheVariants.{Quiet};
 ghost use Rattle.otp_system.specs.Servings.{SentOrKept, is_served};
+ghost use Rattle.otp_hand.specs.Begun.{NoneBegan};
 ghost use Rattle.otp_hand.specs.Standings.{standing_of};
+ghost use Rattle.otp_system.specs.Supervised.{GaveTurn, HadTurnOut, IsServed, IsTurned, IsWorked, KeptAll, WasTold};
 
 use crate::clock::Millis;
 use crate::happening::happening_of;
@@ -10,12 +13,12 @@ use crate::listener::{Listener, Nobody};
 use crate::system::System;
 use otp_bridge::Subsystem;
 use otp_hand::places::put_into;
-use otp_hand::{Hand, Unsent};
+use otp_hand::{Hand, TreeNaming, Unsent};
 use otp_job::{Body, Job, Ticket};
 use otp_reason::Note;
 use otp_run::RunNaming;
 use otp_signals::Signal;
-use otp_sup::{Letter, SupNaming, TurnAnswer, TurnFault};
+use otp_sup::{Letter, Sup, SupNaming, TurnAnswer, TurnFault};
 use std::sync::Wait;
 
 impl<N: SupNaming, J: Job, S: Subsystem> System<N, J, S> {
@@ -52,6 +55,7 @@ impl<N: SupNaming, J: Job, S: Subsystem> System<N, J, S> {
         requires { reading ≤ MAX_READING }
         ensures passes { hand.new.passes ≡ hand.old.passes }
         ensures standing { standing_of hand.new ≡ standing_of hand.old }
+        ensures turn { IsTurned J.started S.inited J.is_trapping J.turned S.polled S.terminated N.plan self.now.slots self.now.tables reading result hand.old hand.new }
     {
         self.turn_heard(rt, hand, reading, &Nobody)
     }
@@ -69,15 +73,48 @@ impl<N: SupNaming, J: Job, S: Subsystem> System<N, J, S> {
         requires { reading ≤ MAX_READING }
         ensures passes { hand.new.passes ≡ hand.old.passes }
         ensures standing { standing_of hand.new ≡ standing_of hand.old }
+        // The process that was out had a turn at this reading. A supervisor's was under the number of its process, told what its parent
+        // had posted for that number.
+        ensures turn { IsTurned J.started S.inited J.is_trapping J.turned S.polled S.terminated N.plan self.now.slots self.now.tables reading result hand.old hand.new }
     {
-        if !self.send_unsent(rt, hand, listener) || !self.find(hand, reading) {
+        if !self.is_ready(rt, hand, reading, listener) {
             return false;
         }
         let served = self.give_turn(rt, hand, reading, listener);
+        self.end_turn(rt, hand, listener);
+        served
+    }
+
+    /// Whether a hand has nothing left to send, and a process whose turn it is: it sends and looks for them.
+    fn is_ready<R: Wait, L: Listener>(
+        &self,
+        rt: &R,
+        hand: &mut Hand<N, J, S>,
+        reading: u64,
+        listener: &L,
+    ) -> bool
+    where
+        N: RunNaming,
+        ensures found { IsTrue result → is_some hand.new.turning ≡ true }
+        ensures unsent { IsTrue result → hand.new.unsent ≡ None }
+        ensures begun { NoneBegan hand.old.scheduler hand.new.scheduler }
+        ensures passes { hand.new.passes ≡ hand.old.passes }
+        ensures standing { standing_of hand.new ≡ standing_of hand.old }
+    {
+        self.send_unsent(rt, hand, listener) && self.find(hand, reading)
+    }
+
+    /// Sends what a turn gave the hand to send. Once that was sent, the process that it has out goes back to the run queue.
+    fn end_turn<R: Wait, L: Listener>(&self, rt: &R, hand: &mut Hand<N, J, S>, listener: &L)
+    where
+        N: RunNaming,
+        ensures begun { NoneBegan hand.old.scheduler hand.new.scheduler }
+        ensures passes { hand.new.passes ≡ hand.old.passes }
+        ensures standing { standing_of hand.new ≡ standing_of hand.old }
+    {
         if self.send_unsent(rt, hand, listener) {
             hand.runner.hand_back();
         }
-        served
     }
 
     /// The process that the hand has out has its turn, at this reading. False where it is a supervisor to which memory was refused.
@@ -94,11 +131,12 @@ impl<N: SupNaming, J: Job, S: Subsystem> System<N, J, S> {
         requires unsent { hand.old.unsent ≡ None }
         ensures passes { hand.new.passes ≡ hand.old.passes }
         ensures standing { standing_of hand.new ≡ standing_of hand.old }
+        ensures turn { IfSome hand.old.turning (λ p. HadTurnOut J.started S.inited J.is_trapping J.turned S.polled S.terminated N.plan self.now.slots self.now.tables reading p result hand.old hand.new) }
     {
         let parent = hand.runner.parent();
         match hand.runner.nested() {
             Some((table, number)) => {
-                let told = hand.runner.look(&self.shared.words);
+                let told = self.look(hand);
                 self.supervise(rt, hand, table, number, reading, told, parent, listener)
             }
             None => {
@@ -108,6 +146,16 @@ impl<N: SupNaming, J: Job, S: Subsystem> System<N, J, S> {
         }
     }
 
+    /// What the process that a hand has out is told by its supervisor.
+    fn look(&self, hand: &mut Hand<N, J, S>) -> Signal
+    where
+        N: RunNaming,
+        ensures same { hand.new ≡ hand.old }
+        ensures told { IfSome hand.old.turning (λ p. WasTold self.now.slots p.ticket result) }
+    {
+        hand.runner.look(&self.shared.words)
+    }
+
     /// The worker or the bridge that a hand has out has its turn.
     fn work<L: Listener>(&self, hand: &mut Hand<N, J, S>, reading: u64, parent: usize, listener: &L)
     where
@@ -115,6 +163,7 @@ impl<N: SupNaming, J: Job, S: Subsystem> System<N, J, S> {
         requires { hand.old.unsent ≡ None }
         ensures passes { hand.new.passes ≡ hand.old.passes }
         ensures standing { standing_of hand.new ≡ standing_of hand.old }
+        ensures turn { IfSome hand.old.turning (λ p. IsWorked J.started S.inited J.is_trapping J.turned S.polled S.terminated self.now.slots reading p hand.old hand.new) }
     {
         let before = hand.runner.waiting.len();
         hand.runner.work_as_told(&self.shared.words, reading);
@@ -158,6 +207,7 @@ impl<N: SupNaming, J: Job, S: Subsystem> System<N, J, S> {
         requires { reading ≤ MAX_READING }
         ensures passes { hand.new.passes ≡ hand.old.passes }
         ensures standing { standing_of hand.new ≡ standing_of hand.old }
+        ensures turn { IsServed N.plan self.now.tables table number reading told result hand.old hand.new }
     {
         let Some(sup) = self.sup(table) else {
             return false;
@@ -167,25 +217,45 @@ impl<N: SupNaming, J: Job, S: Subsystem> System<N, J, S> {
             listener.served(table);
             return false;
         }
-        let words = &self.shared.words;
-        let answer = hand
-            .senders
-            .turn(rt, words, sup, &mut hand.runner, number, reading, told);
-        if answer == Ok(TurnAnswer::Quiet) {
-            let due = sup.next_deadline(rt);
-            hand.runner.rest(table, told, due);
+        let answer = self.give_to(rt, hand, sup, number, reading, told);
+        if is_quiet(&answer) {
+            rest(rt, hand, sup, table, told);
             listener.rests(table, parent);
             // Where memory for its wait is refused it is still out.
             return hand.runner.turning.is_none();
         }
-        let served = is_served(&answer);
         listener.served(table);
-        // What is posted while nobody waits stays noted: those that wait later are then looked at in vain once.
-        if hand.runner.waiting.len() > 0 {
-            let posted = hand.runner.around.take_posted();
-            hand.runner.waiting.notice_posted(posted);
-        }
-        served
+        hear_posts(hand);
+        is_served(&answer)
+    }
+
+    /// The turn of this supervisor, which gives its orders to this hand.
+    fn give_to<R: Wait>(
+        &self,
+        rt: &R,
+        hand: &mut Hand<N, J, S>,
+        sup: &Sup<N, Body<J, S>>,
+        number: u64,
+        reading: u64,
+        told: Signal,
+    ) -> Result<TurnAnswer, TurnFault>
+    where
+        N: RunNaming,
+        requires reading { reading ≤ MAX_READING }
+        requires reaches { sup.now.inbox < length hand.old.senders }
+        ensures passes { hand.new.passes ≡ hand.old.passes }
+        ensures standing { standing_of hand.new ≡ standing_of hand.old }
+        ensures turn { GaveTurn N.plan sup.now.inbox number reading told result hand.old hand.new }
+    {
+        hand.senders.turn(
+            rt,
+            &self.shared.words,
+            sup,
+            &mut hand.runner,
+            number,
+            reading,
+            told,
+        )
     }
 
     /// Sends the letter that a hand still has to send. False where it was refused again.
@@ -200,6 +270,7 @@ impl<N: SupNaming, J: Job, S: Subsystem> System<N, J, S> {
         ensures sent { IsTrue result → hand.new.unsent ≡ None }
         // It is the letter that the hand had kept, to the supervisor for which it was kept; a refused one stays as it is.
         ensures letter { SentOrKept result self.now.tables hand.old.unsent hand.old hand.new }
+        ensures begun { NoneBegan hand.old.scheduler hand.new.scheduler }
         ensures passes { hand.new.passes ≡ hand.old.passes }
         ensures standing { standing_of hand.new ≡ standing_of hand.old }
     {
@@ -231,6 +302,42 @@ impl<N: SupNaming, J: Job, S: Subsystem> System<N, J, S> {
             }
         }
     }
+}
+
+/// The supervisor's process that a hand has out waits from now on, until the least deadline of its children at most.
+fn rest<N: SupNaming + RunNaming, J: Drop, S: Drop, R: Wait>(
+    rt: &R,
+    hand: &mut Hand<N, J, S>,
+    sup: &Sup<N, Body<J, S>>,
+    table: usize,
+    told: Signal,
+)
+    ensures passes { hand.new.passes ≡ hand.old.passes }
+    ensures standing { standing_of hand.new ≡ standing_of hand.old }
+    ensures kept { KeptAll hand.old hand.new }
+{
+    let due = sup.next_deadline(rt);
+    hand.runner.rest(table, told, due);
+}
+
+/// A hand notes what was posted in a supervisor's turn. What is posted while nobody waits stays noted: those that wait later are
+/// then looked at in vain once.
+fn hear_posts<N: TreeNaming, J: Drop, S: Drop>(hand: &mut Hand<N, J, S>)
+    ensures passes { hand.new.passes ≡ hand.old.passes }
+    ensures standing { standing_of hand.new ≡ standing_of hand.old }
+    ensures kept { KeptAll hand.old hand.new }
+{
+    if hand.runner.waiting.len() > 0 {
+        let posted = hand.runner.around.take_posted();
+        hand.runner.waiting.notice_posted(posted);
+    }
+}
+
+/// Whether a turn with this answer found nothing to do.
+fn is_quiet(answer: &Result<TurnAnswer, TurnFault>) -> bool
+    ensures { IsTrue result → answer.now ≡ Ok Quiet }
+{
+    matches!(answer, Ok(TurnAnswer::Quiet))
 }
 
 /// Whether a turn with this answer was served: nothing was refused to it, nor to an earlier one whose orders were left over.

@@ -103,7 +103,10 @@ impl<N: SupNaming, J: Drop, S: Drop> System<N, J, S> {
     }
 
     /// The supervisor with this number, if the tree has it.
-    pub(crate) fn sup(&self, table: usize) -> Option<&Sup<N, Body<J, S>>> {
+    pub(crate) fn sup(&self, table: usize) -> Option<&Sup<N, Body<J, S>>>
+        ensures of { IfSome result (λ sup. sup.now.inbox ≡ table) }
+        ensures none { IfNone result (is_some (N.plan table) ≡ true → table < self.now.tables → ⊥) }
+    {
         if self.has_table(table) {
             self.shared.sups.get(table)
         } else {

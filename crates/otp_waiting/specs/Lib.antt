@@ -1,2 +1,3 @@
 pub mod Waitings
 pub mod Arounds
+pub mod Deadlines

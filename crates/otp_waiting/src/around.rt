@@ -1,6 +1,7 @@
 //! What a hand knows of what is around it.
-ghost use Rattle.std.specs.Prelude.{◌≡◌, ◌↔◌, ◌-◌, ◌≤◌, IsTrue, MatchOption};
+ghost use Rattle.std.specs.Prelude.{◌≡◌, ◌↔◌, ◌-◌, ◌≤◌, IsTrue};
 ghost use Rattle.otp_waiting.specs.declared.around.TheConstants.{ENOUGH, THEFT_PAUSE};
+ghost use Rattle.otp_waiting.specs.Deadlines.{IsDue};
 ghost use Rattle.otp_waiting.specs.Arounds.{IsToComeBack, one_more, passed_after, stock_after};
 
 use otp_job::Site;
@@ -161,7 +162,9 @@ impl Around {
 
     /// Whether a search is worth its time, where the last gave nothing and nothing has changed since: this deadline has come, or the
     /// others are to be tried. Where it isn't, that is noted as a search that gave nothing.
-    pub fn is_worth_a_search(&mut self, due: Option<u64>, reading: u64) -> bool {
+    pub fn is_worth_a_search(&mut self, due: Option<u64>, reading: u64) -> bool
+        ensures due { IsDue due reading → IsTrue result }
+    {
         if is_due(due, reading) || self.tries_others() {
             return true;
         }
@@ -170,7 +173,9 @@ impl Around {
     }
 
     /// Where turns of processes are made, at this reading of the clock.
-    pub fn site(&self, reading: u64) -> Site<'_> {
+    pub fn site(&self, reading: u64) -> Site<'_>
+        ensures { result.reading ≡ reading }
+    {
         Site {
             reading,
             post: self.post.as_ref(),
@@ -230,7 +235,7 @@ impl Around {
 
 /// Whether the reading of the clock has come to a deadline.
 pub fn is_due(due: Option<u64>, reading: u64) -> bool
-    ensures { IsTrue result ↔ MatchOption due ⊥ (λ d. d ≤ reading) }
+    ensures { IsTrue result ↔ IsDue due reading }
 {
     match due {
         Some(due) => due <= reading,

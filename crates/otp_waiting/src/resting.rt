@@ -1,5 +1,6 @@
 //! Supervisors' processes that wait until something comes for them.
 ghost use Rattle.std.specs.Prelude.{◌≡◌, ◌<◌, ◌≤◌, ◌++◌, ◌∷◌, [], length, IfSome, MatchOption};
+ghost use Rattle.otp_waiting.specs.Deadlines.{earlier, least_due};
 ghost use Rattle.otp_waiting.specs.Waitings.{IsTaken};
 
 use otp_job::Process;
@@ -110,7 +111,9 @@ impl<J: Drop, S: Drop> Resting<J, S> {
     }
 
     /// The least of the deadlines for which they wait.
-    pub fn next_due(&self) -> Option<u64> {
+    pub fn next_due(&self) -> Option<u64>
+        ensures { result ≡ least_due self.now }
+    {
         least_due(self.list.as_slice())
     }
 
@@ -128,7 +131,9 @@ impl<J: Drop, S: Drop> Resting<J, S> {
 }
 
 /// The least of their deadlines.
-fn least_due<J: Drop, S: Drop>(resting: &[Rested<J, S>]) -> Option<u64> {
+fn least_due<J: Drop, S: Drop>(resting: &[Rested<J, S>]) -> Option<u64>
+    ensures { result ≡ least_due resting.now }
+{
     let mut least = None;
     for rested in resting {
         least = earlier(least, rested.due);
@@ -137,11 +142,13 @@ fn least_due<J: Drop, S: Drop>(resting: &[Rested<J, S>]) -> Option<u64> {
 }
 
 /// The earlier of two deadlines.
-fn earlier(one: Option<u64>, other: Option<u64>) -> Option<u64> {
+fn earlier(one: Option<u64>, other: Option<u64>) -> Option<u64>
+    ensures { result ≡ earlier one other }
+{
     match (one, other) {
         (Some(one), Some(other)) => Some(one.min(other)),
-        (Some(due), None) | (None, Some(due)) => Some(due),
-        (None, None) => None,
+        (Some(one), None) => Some(one),
+        (None, other) => other,
     }
 }
 

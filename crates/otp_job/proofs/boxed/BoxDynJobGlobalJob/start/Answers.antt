@@ -3,11 +3,11 @@ use Rattle.std.specs.declared.dyn_box.DynBox.{DynBox}
 use Rattle.otp_job.proofs.boxed.BoxDynJobGlobalJob.start.Goals as goal
 
 pub returns : goal.returns
-returns g c =
+returns g c = λ place same.
     let Box : Type 0 = DynBox g.dyn-1.0.I Global (λ x. (g.dyn-1.0.entry x).0.Denot) in
     let now : Box = record { ptr = c.args.self.now.ptr; vtable = c.deref_box_mut-1.result.now.0; alloc = c.args.self.now.alloc; value = c.start.new.self } in
     subst
     (λ (p : (x : g.dyn-1.0.I) × (g.dyn-1.0.entry x).0.Denot).
-    (y : (g.dyn-1.0.entry p.0).0.Denot) × (now ≡ record { ptr = c.args.self.now.ptr; vtable = p.0; alloc = c.args.self.now.alloc; value = y }) × (g.dyn-1.0.entry p.0).1.started p.1 c.args.number c.start.result y)
+    (y : (g.dyn-1.0.entry p.0).0.Denot) × (now ≡ record { ptr = c.args.self.now.ptr; vtable = p.0; alloc = c.args.self.now.alloc; value = y }) × (g.dyn-1.0.entry p.0).1.started p.1 place c.start.result y)
     (c.deref_box_mut-1.ensures).value.1
-    (c.start.new.self, refl, c.start.ensures)
+    (c.start.new.self, refl, c.start.ensures place same)
