@@ -60,6 +60,15 @@ impl Keeper {
         self.calls.remove(&call);
     }
 
+    /// The children have other supervisors by now, and those that aren't there any more are forgotten. No call is unanswered.
+    pub fn move_to(&mut self, place: impl Fn(Key) -> Option<Key>) {
+        let kept = std::mem::take(&mut self.kept).into_iter();
+        self.kept = kept.filter_map(|(key, kept)| Some((place(key)?, kept))).collect();
+        self.waiting = std::mem::take(&mut self.waiting).into_iter().filter_map(&place).collect();
+        self.forced.clear();
+        self.calls.clear();
+    }
+
     /// A client has stopped a child: it is left alone.
     pub fn release(&mut self, supervisor: SupervisorId, id: Name) {
         self.kept.remove(&(supervisor, id));
@@ -178,7 +187,8 @@ impl Daemon {
 
     /// What is told to the tree already comes first.
     fn may_call(&self) -> bool {
-        !self.is_stopping && self.kill_until.is_none() && self.end.is_none() && self.untold.is_empty()
+        let is_ending = self.is_stopping || self.kill_until.is_some() || self.end.is_some();
+        !is_ending && !self.reload_holds() && self.untold.is_empty()
     }
 
     fn call_due(&mut self) -> usize {

@@ -87,6 +87,7 @@ const P_ALL: c_int = 0;
 const WNOHANG: c_int = 1;
 const WEXITED: c_int = 4;
 const WNOWAIT: c_int = 0x0100_0000;
+const CLOCK_MONOTONIC: c_int = 1;
 const RLIMIT_NOFILE: c_int = 7;
 const SOL_SOCKET: c_int = 1;
 const SO_PEERCRED: c_int = 17;
@@ -174,10 +175,19 @@ unsafe extern "C" {
     fn geteuid() -> u32;
     fn umask(mask: u32) -> u32;
     fn getppid() -> c_int;
+    fn clock_gettime(clock: c_int, time: *mut [i64; 2]) -> c_int;
 }
 
 fn checked(answer: c_int) -> io::Result<c_int> {
     if answer < 0 { Err(io::Error::last_os_error()) } else { Ok(answer) }
+}
+
+/// Microseconds of the system's monotonic clock, as a manager wants them.
+pub fn monotonic_microseconds() -> u64 {
+    let mut time = [0; 2];
+    // SAFETY: on 64 bits a `timespec` is two such numbers, and these are this function's own.
+    let answer = unsafe { clock_gettime(CLOCK_MONOTONIC, &raw mut time) };
+    if answer == 0 { (time[0] * 1_000_000 + time[1] / 1_000) as u64 } else { 0 }
 }
 
 fn set_of(signals: &[c_int]) -> SignalSet {
