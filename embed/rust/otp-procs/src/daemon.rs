@@ -147,6 +147,8 @@ pub struct Daemon {
     /// The reload that is under way, and whether there was one that has changed the tree.
     pub(crate) reload: Option<Reload>,
     pub(crate) has_reloaded: bool,
+    /// It goes on where an earlier program has stopped.
+    pub(crate) is_resumed: bool,
     /// The paths of those that a reload couldn't start.
     pub(crate) unstarted: BTreeSet<String>,
     pub(crate) mark: Mark,
@@ -228,6 +230,7 @@ impl Daemon {
             shapes: Vec::new(),
             reload: None,
             has_reloaded: false,
+            is_resumed: false,
             unstarted: BTreeSet::new(),
             mark,
             log,
@@ -285,11 +288,13 @@ impl Daemon {
 
     /// Runs the tree until its root has ended, and answers the exit status: that of the main process, or how the root has ended.
     pub fn run(mut self) -> u8 {
-        let swept = self.mark.end_left_behind(|| self.grouped());
+        if !self.is_resumed {
+            let swept = self.mark.end_left_behind(|| self.grouped());
+            self.tell_swept(&swept, "a daemon that was killed has left them");
+        }
         if let Some(groups) = &self.groups {
             groups.clear();
         }
-        self.tell_swept(&swept, "a daemon that was killed has left them");
         self.go_on();
         self.keep();
         while self.end.is_none() && !self.is_broken && !self.gives_up() {

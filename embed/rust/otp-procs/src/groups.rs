@@ -204,6 +204,11 @@ impl Groups {
         Ok(Groups { root, tree, controllers, _lock: lock })
     }
 
+    /// The folder that was handed to the daemon.
+    pub fn folder(&self) -> &Path {
+        &self.root
+    }
+
     fn has(&self, controller: &str) -> bool {
         self.controllers.contains(&controller)
     }
@@ -330,6 +335,17 @@ pub struct Group {
 }
 
 impl Group {
+    /// That of a process which runs.
+    pub fn left_by(folder: &Path) -> io::Result<Self> {
+        let procs = File::options().write(true).open(folder.join("cgroup.procs"))?;
+        Ok(Group { folder: folder.to_path_buf(), procs })
+    }
+
+    /// Its folder.
+    pub fn folder(&self) -> &Path {
+        &self.folder
+    }
+
     /// By which a process comes into it.
     pub fn descriptor(&self) -> RawFd {
         self.procs.as_raw_fd()

@@ -40,7 +40,11 @@ impl Loaded {
     /// Reads the files. A tree of them is opened in which each start succeeds: the word of a child with a tree starts none. What the
     /// plans say of its children is looked at, too, and by whom each has to wait.
     pub fn read(tree: &Path, commands: Option<&Path>) -> Result<Self, Box<dyn Error>> {
-        let files = Files::read(tree, commands)?;
+        Loaded::of(Files::read(tree, commands)?)
+    }
+
+    /// What these files say.
+    pub fn of(files: Files) -> Result<Self, Box<dyn Error>> {
         let mut tree = files.open()?;
         let mut words = BTreeSet::new();
         take_starts(&mut tree, &mut words)?;

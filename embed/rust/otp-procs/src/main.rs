@@ -14,6 +14,7 @@ mod env_file;
 mod files;
 mod glob;
 mod groups;
+mod handover;
 mod happenings;
 mod help;
 mod http;
@@ -75,6 +76,7 @@ use otp_supervision::Tree;
 use std::error::Error;
 use std::fs;
 use std::io::{self, Write};
+use std::os::fd::OwnedFd;
 use std::path::{Path, PathBuf};
 use std::process::ExitCode;
 
@@ -212,6 +214,9 @@ fn began(run: &Run) -> Record {
 }
 
 fn run_tree(run: &Run) -> Result<u8, Box<dyn Error>> {
+    if let Some((fd, is_check)) = run.take_over {
+        return take_over(run, fd, is_check);
+    }
     let loaded = Loaded::read(&run.tree, run.commands.as_deref())?;
     if let Some(lacking) = loaded.refusal_of_files(run.main.as_deref()) {
         return Err(lacking.into());
@@ -221,28 +226,67 @@ fn run_tree(run: &Run) -> Result<u8, Box<dyn Error>> {
     if let Some(bad) = loaded.refusal_by(groups.as_ref()) {
         return Err(bad.into());
     }
-    os::keep_descriptors()
-        .map_err(|error| format!("/proc/self/fd can't be read, by which descriptors are kept: {error}"))?;
-    os::raise_descriptors().map_err(|error| format!("the limit of descriptors can't be raised: {error}"))?;
-    let _reserved = os::reserve_descriptors().map_err(|error| format!("/dev/null can't be opened: {error}"))?;
-    let signals =
-        os::signals_as_descriptor().map_err(|error| format!("there is no descriptor for signals: {error}"))?;
-    os::adopt_orphans().map_err(|error| format!("orphans can't be adopted: {error}"))?;
+    let (_reserved, signals) = set_up()?;
     let control = run.control.as_deref().map(Control::open).transpose()?;
-    let mut log = Log::open(run.log.as_deref(), run.rotation, run.is_json)
-        .map_err(|error| format!("the log can't be opened: {error}"))?;
-    let place = run.control.as_ref().unwrap_or(&run.tree);
-    let mark = Mark::new(place).map_err(|error| format!("{}: {error}", place.display()))?;
+    let (mut log, mark) = (log_of(run)?, mark_of(run)?);
     log.tell(0, &began(run));
     let Loaded { files, needs, shapes, .. } = loaded;
     let mut daemon = Daemon::new(tree, files.plans, mark, log, control, signals)?;
+    (daemon.text, daemon.shapes) = (files.tree, shapes);
     daemon.groups = groups;
+    daemon.keeper.after = needs.after;
+    tell_of_run(&mut daemon, run);
+    Ok(daemon.run())
+}
+
+/// What holds for the process itself: which descriptors and signals it has, and that it adopts orphans.
+fn set_up() -> Result<(Vec<fs::File>, OwnedFd), String> {
+    os::keep_descriptors()
+        .map_err(|error| format!("/proc/self/fd can't be read, by which descriptors are kept: {error}"))?;
+    os::raise_descriptors().map_err(|error| format!("the limit of descriptors can't be raised: {error}"))?;
+    let reserved = os::reserve_descriptors().map_err(|error| format!("/dev/null can't be opened: {error}"))?;
+    let signals =
+        os::signals_as_descriptor().map_err(|error| format!("there is no descriptor for signals: {error}"))?;
+    os::adopt_orphans().map_err(|error| format!("orphans can't be adopted: {error}"))?;
+    Ok((reserved, signals))
+}
+
+fn log_of(run: &Run) -> Result<Log, String> {
+    Log::open(run.log.as_deref(), run.rotation, run.is_json)
+        .map_err(|error| format!("the log can't be opened: {error}"))
+}
+
+fn mark_of(run: &Run) -> Result<Mark, String> {
+    let place = run.control.as_ref().unwrap_or(&run.tree);
+    Mark::new(place).map_err(|error| format!("{}: {error}", place.display()))
+}
+
+/// The daemon is told what its words say.
+fn tell_of_run(daemon: &mut Daemon, run: &Run) {
     daemon.manager = Manager::of_environment();
     daemon.main = run.main.as_ref().map(|path| path.trim_start_matches('/').to_string());
-    daemon.keeper.after = needs.after;
-    daemon.sources = Some(Sources { tree: run.tree.clone(), commands: run.commands.clone() });
-    (daemon.text, daemon.shapes) = (files.tree, shapes);
+    daemon.sources = Some(run.sources());
     daemon.pages.title = run.tree.file_name().unwrap_or(run.tree.as_os_str()).to_string_lossy().into_owned();
+}
+
+/// Goes on where the program has stopped that this one replaces; or only reads what that has left.
+fn take_over(run: &Run, fd: i32, is_check: bool) -> Result<u8, Box<dyn Error>> {
+    let resumed = handover::resume::read(fd, &run.sources())?;
+    if let Some(text) = resumed.loaded.refusal_of_files(run.main.as_deref()) {
+        return Err(text.into());
+    }
+    if is_check {
+        return Ok(0);
+    }
+    let (_reserved, signals) = set_up()?;
+    let control = run.control.as_deref().zip(resumed.control());
+    let control = control.and_then(|(folder, descriptors)| Control::left_by(folder, descriptors));
+    let groups = resumed.cgroup().map(|folder| Groups::open(&groups::Wanted::Folder(folder))).transpose()?;
+    let (tree, plans) = (resumed.loaded.files.open()?, resumed.loaded.files.plans.clone());
+    let mut daemon = Daemon::new(tree, plans, mark_of(run)?, log_of(run)?, control, signals)?;
+    daemon.groups = groups;
+    tell_of_run(&mut daemon, run);
+    daemon.resume(resumed)?;
     Ok(daemon.run())
 }
 

@@ -241,6 +241,15 @@ pub fn of_table(table: &Table) -> Result<Plan, BadLine> {
     plan_of(&keys)
 }
 
+/// What the keys of a start word say, wherever they have stood.
+pub fn of_said(word: &str, said: &BTreeMap<String, Value>) -> Result<Plan, BadLine> {
+    let place = Place { file: format!("[{word}]").into(), line: 0 };
+    let entry =
+        |(key, value): (&String, &Value)| Entry { key: key.clone(), place: place.clone(), value: value.clone() };
+    let entries = said.iter().map(entry).collect();
+    of_table(&Table { name: word.to_string(), place: place.clone(), entries, is_template: false, instance: None })
+}
+
 /// The plans of a text without templates.
 #[cfg(test)]
 pub fn read(file: &str, text: &str) -> Result<Plans, BadLine> {

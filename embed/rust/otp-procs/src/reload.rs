@@ -37,11 +37,20 @@ pub struct Wish {
     pub sources: Option<Sources>,
 }
 
-/// A reload that is under way.
+/// What is done once nothing is under way.
+#[derive(Debug)]
+enum Goal {
+    /// These files take the place of those that run.
+    Files(Box<Loaded>),
+    /// The program is replaced.
+    Program,
+}
+
+/// A reload that is under way, or the replacement of the program.
 #[derive(Debug)]
 pub(crate) struct Reload {
     token: u64,
-    loaded: Loaded,
+    goal: Goal,
     steps: Steps,
     within: u64,
     /// It is given up at this reading, if something is under way still.
@@ -74,32 +83,32 @@ impl Daemon {
             let now = os::monotonic_microseconds();
             manager.tell(&format!("RELOADING=1\nMONOTONIC_USEC={now}\nSTATUS=Reads its files anew"));
         }
-        let within = wish.within.as_millis() as u64;
-        self.reload = Some(Reload {
-            token,
-            loaded,
-            steps,
-            within,
-            until: self.now().saturating_add(within),
-            awaits: None,
-            is_exchanged: false,
-            calls: VecDeque::new(),
-            stopped: BTreeMap::new(),
-            gone: Vec::new(),
-            failed: Vec::new(),
-        });
+        let goal = Goal::Files(Box::new(loaded));
+        self.reload = Some(Reload::new(token, goal, steps, wish.within.as_millis() as u64, self.now()));
         self.reload_on();
+    }
+
+    /// A client asks for the program to be replaced.
+    pub(crate) fn reexec(&mut self, token: u64, within: u64) {
+        if let Err(text) = self.may_reload() {
+            return self.answer(token, Err(&format!("nothing is changed: {text}")));
+        }
+        self.reload = Some(Reload::new(token, Goal::Program, Steps::default(), within, self.now()));
+        self.reload_on();
+    }
+
+    fn may_reload(&self) -> Result<(), String> {
+        match (self.is_stopping, &self.reload) {
+            (true, _) => Err("the tree is shutting down".to_string()),
+            (false, Some(_)) => Err("another reload is under way".to_string()),
+            (false, None) => Ok(()),
+        }
     }
 
     /// The files as they are now, and what is to be done. Nothing of the daemon is changed.
     fn reload_steps(&mut self, wish: &Wish) -> Result<(Loaded, Steps), String> {
         let sources = wish.sources.as_ref().or(self.sources.as_ref()).ok_or("the daemon has no files")?;
-        if self.is_stopping {
-            return Err("the tree is shutting down".to_string());
-        }
-        if self.reload.is_some() {
-            return Err("another reload is under way".to_string());
-        }
+        self.may_reload()?;
         let loaded = Loaded::read(&sources.tree, sources.commands.as_deref()).map_err(|error| error.to_string())?;
         if let Some(text) = loaded.refusal_of_files(self.main.as_deref()) {
             return Err(text);
@@ -147,7 +156,7 @@ impl Daemon {
     }
 
     /// The children of a supervisor that runs.
-    fn children_of(&self, supervisor: SupervisorId) -> Vec<Child> {
+    pub(crate) fn children_of(&self, supervisor: SupervisorId) -> Vec<Child> {
         let runs = self.tree.supervisor(supervisor).is_ok_and(|found| found.phase == Phase::Runs);
         if runs { self.tree.children(supervisor).unwrap_or_default() } else { Vec::new() }
     }
@@ -191,6 +200,10 @@ impl Daemon {
 
     /// Nothing is under way: each child is up, or has no process, and nobody waits for the answer of a call.
     fn is_quiet(&self) -> bool {
+        let is_of_program = self.reload.as_ref().is_some_and(|reload| matches!(reload.goal, Goal::Program));
+        if is_of_program && !self.can_be_handed_over() {
+            return false;
+        }
         let is_told = self.untold.is_empty() && self.waiters.is_empty() && self.endings.is_empty();
         let is_calm = |number: SupervisorId| {
             let Ok(found) = self.tree.supervisor(number) else { return false };
@@ -271,10 +284,11 @@ impl Daemon {
     /// The new files take the place of those that run. Nothing is changed where that is refused.
     fn exchange(&mut self) -> Result<(), String> {
         let Some(reload) = &self.reload else { return Ok(()) };
+        let Goal::Files(loaded) = &reload.goal else { return Err(self.replace_program(reload.token)) };
         let is_new = reload.steps.is_new_tree;
-        let opened = if is_new { Some(self.open_anew(&reload.loaded, &reload.steps)?) } else { None };
+        let opened = if is_new { Some(self.open_anew(loaded, &reload.steps)?) } else { None };
         let Some(mut reload) = self.reload.take() else { return Ok(()) };
-        let loaded = &mut reload.loaded;
+        let Goal::Files(loaded) = &mut reload.goal else { return Ok(()) };
         self.plans = std::mem::take(&mut loaded.files.plans);
         self.keeper.after = std::mem::take(&mut loaded.needs.after);
         if let Some(opened) = opened {
@@ -343,6 +357,22 @@ impl Daemon {
 }
 
 impl Reload {
+    fn new(token: u64, goal: Goal, steps: Steps, within: u64, now: u64) -> Self {
+        Reload {
+            token,
+            goal,
+            steps,
+            within,
+            until: now.saturating_add(within),
+            awaits: None,
+            is_exchanged: false,
+            calls: VecDeque::new(),
+            stopped: BTreeMap::new(),
+            gone: Vec::new(),
+            failed: Vec::new(),
+        }
+    }
+
     /// What was changed of what was to be, where it is given up.
     fn what_was_done(&self) -> String {
         if self.is_exchanged {

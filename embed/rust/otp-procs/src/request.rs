@@ -7,6 +7,7 @@ use crate::words::time_of;
 use std::ffi::OsString;
 use std::os::unix::ffi::{OsStrExt, OsStringExt};
 use std::path::{Path, PathBuf};
+use std::time::Duration;
 
 /// What a client waits for.
 #[derive(Clone, Copy, Debug, PartialEq, Eq)]
@@ -52,6 +53,8 @@ pub enum Request {
     PageParts(Option<String>),
     /// The files are read anew.
     Reload(Wish),
+    /// The program is replaced, once nothing is under way; so long that is waited for.
+    Reexec(Duration),
     /// The whole tree is shut down.
     Shutdown,
 }
@@ -59,13 +62,12 @@ pub enum Request {
 impl Request {
     /// It changes nothing.
     pub fn is_question(&self) -> bool {
-        match self {
-            Request::Start(_) | Request::Stop(_) | Request::Restart(_) | Request::Signal(..) | Request::Shutdown => {
-                false
-            }
-            Request::Reload(wish) => wish.is_dry,
-            _ => true,
-        }
+        let acts = match self {
+            Request::Reload(wish) => !wish.is_dry,
+            Request::Start(_) | Request::Stop(_) | Request::Restart(_) | Request::Signal(..) => true,
+            _ => matches!(self, Request::Reexec(_) | Request::Shutdown),
+        };
+        !acts
     }
 
     /// Its answer goes on until somebody ends it.
@@ -80,9 +82,9 @@ impl Request {
 }
 
 /// The names of all.
-const NAMES: [&str; 14] = [
+const NAMES: [&str; 15] = [
     "status", "which", "count", "start", "stop", "restart", "signal", "wait", "tail", "events", "metrics", "page",
-    "reload", "shutdown",
+    "reload", "reexec", "shutdown",
 ];
 
 /// The words, as `ctl --help` lists them.
@@ -108,6 +110,7 @@ pub const WORDS: &str = "\
   reload [--dry-run] [--restart] [--within TIME]  read the files anew: the processes of children that stay run on.
                     --dry-run says what would be done; --restart restarts those that would run otherwise; TIME is
                     how long it waits until no child is starting or stopping: 30s
+  reexec [--within TIME]  replace the program of the daemon by the one that has its name now; all processes run on
   shutdown          shut the whole tree down, in order
 
 For status, start, stop, restart, signal and wait PATH may be a pattern: 'pool/*' is each child of the pool";
@@ -160,6 +163,9 @@ pub fn request_of(line: &str) -> Result<Request, String> {
         ("events", rest) => events_of(rest),
         ("signal", rest) => signal_of(rest),
         ("reload", rest) => reload_of(rest),
+        ("reexec", []) => Ok(Request::Reexec(PATIENCE)),
+        ("reexec", ["--within", time]) => time_of(time).map(Request::Reexec).ok_or(no_time(time)),
+        ("reexec", _) => Err("reexec takes --within TIME alone".to_string()),
         ("wait", [path, "ready"]) => Ok(Request::Wait((*path).to_string(), Wanted::Ready)),
         ("wait", [path, "up"]) => Ok(Request::Wait((*path).to_string(), Wanted::Up)),
         ("wait", [path, "down"]) => Ok(Request::Wait((*path).to_string(), Wanted::Down)),
@@ -187,6 +193,10 @@ fn signal_of(words: &[&str]) -> Result<Request, String> {
     Err(format!("there is no signal {name} to send; there are {}", known.join(", ")))
 }
 
+fn no_time(time: &str) -> String {
+    format!("--within wants a time such as 500ms, 5s, 2m or 1h, and not {time}")
+}
+
 fn reload_of(words: &[&str]) -> Result<Request, String> {
     let mut wish = Wish { is_dry: false, restarts: false, within: PATIENCE, sources: None };
     let mut words = words.iter();
@@ -196,8 +206,7 @@ fn reload_of(words: &[&str]) -> Result<Request, String> {
             "--restart" => wish.restarts = true,
             "--within" => {
                 let time = words.next().copied().unwrap_or_default();
-                wish.within = time_of(time)
-                    .ok_or(format!("--within wants a time such as 500ms, 5s, 2m or 1h, and not {time}"))?;
+                wish.within = time_of(time).ok_or(no_time(time))?;
             }
             // Of the daemon's own files it needs no names; these are `otp-procs diff`'s.
             "--files" => {

@@ -58,6 +58,7 @@ impl Daemon {
                 self.stop();
             }
             Request::PageParts(Some(mark)) => self.look_for_page(token, mark),
+            Request::Reexec(within) => self.reexec(token, within.as_millis() as u64),
             Request::Reload(wish) => {
                 self.tell_time();
                 self.reload(token, &wish);

@@ -82,10 +82,19 @@ pub struct Run {
     pub rotation: Option<Rotation>,
     /// The path for whose process all runs.
     pub main: Option<String>,
+    /// An earlier program has left something in this descriptor; where true that is only read.
+    pub take_over: Option<(i32, bool)>,
+}
+
+impl Run {
+    /// Its files.
+    pub fn sources(&self) -> Sources {
+        Sources { tree: self.tree.clone(), commands: self.commands.clone() }
+    }
 }
 
 /// The flags, and the commands that have them.
-const FLAGS: [(&str, &[&str]); 13] = [
+const FLAGS: [(&str, &[&str]); 15] = [
     ("--log", &["run"]),
     ("--json", &["run"]),
     ("--no-control", &["run"]),
@@ -97,6 +106,9 @@ const FLAGS: [(&str, &[&str]); 13] = [
     ("--old", &["diff"]),
     ("--old-commands", &["diff"]),
     ("--restart", &["diff"]),
+    // The daemon's own, which no help names.
+    ("--take-over", &["run"]),
+    ("--check", &["run"]),
     ("--run", &["replay"]),
     ("--within", &["ctl"]),
 ];
@@ -137,10 +149,10 @@ fn sort(words: impl Iterator<Item = OsString>) -> Result<Sorted, String> {
         match FLAGS.iter().find(|(flag, _)| *flag == text) {
             _ if matches!(text, "--help" | "-h") => sorted.asks_help = true,
             _ if text == "--version" => sorted.asks_version = true,
-            Some((flag @ ("--json" | "--no-control" | "--restart"), _)) if !is_asked => {
+            Some((flag @ ("--json" | "--no-control" | "--restart" | "--check"), _)) if !is_asked => {
                 drop(sorted.flags.insert(flag, word));
             }
-            Some((flag, _)) if !matches!(*flag, "--json" | "--restart") => {
+            Some((flag, _)) if !matches!(*flag, "--json" | "--restart" | "--check") => {
                 let value = words.next().ok_or(format!("{flag} wants a word behind it; {}", more(sorted.verb())))?;
                 sorted.flags.insert(flag, value);
             }
@@ -198,8 +210,11 @@ pub fn read(words: impl Iterator<Item = OsString>) -> Result<Words, String> {
                 _ => Wanted::Folder(folder),
             });
             let main = sorted.text("--main");
+            let is_check = sorted.flags.contains_key("--check");
+            let take_over = sorted.text("--take-over").map(|fd| fd.parse().map(|fd| (fd, is_check)));
+            let take_over = take_over.transpose().map_err(|_| "--take-over is the daemon's own".to_string())?;
             let rotation = rotation_of(&mut sorted, log.is_some())?;
-            Ok(Words::Run(Run { tree, commands, control, log, is_json, cgroup, rotation, main }))
+            Ok(Words::Run(Run { tree, commands, control, log, is_json, cgroup, rotation, main, take_over }))
         }
         ("diff", Some(tree), commands, None) => diff_of(&mut sorted, Sources { tree, commands }),
         ("check", Some(tree), commands, None) => Ok(Words::Check(tree, commands)),
@@ -265,9 +280,12 @@ fn ctl_of(sorted: &mut Sorted) -> Result<Words, String> {
     let request = request::request_of(&line)?;
     let mut within = within.or((!request.waits()).then_some(QUESTION));
     // How long a reload waits is the daemon's; its answer is waited for.
-    if let (request::Request::Reload(wish), Some(time)) = (&request, within)
-        && !wish.is_dry
-    {
+    let waits_there = match &request {
+        request::Request::Reload(wish) => !wish.is_dry,
+        request::Request::Reexec(_) => true,
+        _ => false,
+    };
+    if let (true, Some(time)) = (waits_there, within) {
         line.push_str(&format!(" --within {}", time.as_millis()));
         within = None;
     }

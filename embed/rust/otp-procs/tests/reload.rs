@@ -410,12 +410,14 @@ fn no_line_of_a_process_is_lost_and_its_number_is_known() {
         assert!(reload(&daemon, &[]).contains("start "));
         wait_until("it talks on", || said().unwrap_or(0) > before + 10);
     }
+    wait_until("it has written enough", || daemon.read("out").lines().count() > 60 && lines_of(&daemon).len() > 60);
     let path = status(&daemon).1.keys().find(|path| path.starts_with("d/#")).unwrap().clone();
     let (is_done, text) = daemon.ctl(&["tail", &path, "100000"]);
     assert!(is_done && text.starts_with("1\n"), "{path}: {text}");
     daemon.signal(HUP);
     daemon.wait_for("HUP", |line| line.get("remark") == "signal" && line.get("name") == "HUP");
     let text = daemon.read("out");
+    let text = &text[..=text.rfind('\n').unwrap()];
     for lines in [text.lines().map(|line| line.parse().unwrap()).collect(), lines_of(&daemon)] {
         let all: Vec<u64> = lines;
         assert!(all.len() > 50 && all.iter().copied().eq(1..=all.len() as u64), "{all:?}");

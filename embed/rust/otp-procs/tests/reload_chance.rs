@@ -1,5 +1,6 @@
 //! Reloads by chance: of two random trees, from the first one to the second one. Afterwards all stands as in a daemon that has begun
 //! with the second one; what both have keeps its process, nothing else runs, and the log, played again, has the orders of the rules.
+//! Then the program is replaced, of which nothing is seen.
 //!
 //! `OTP_RELOADS` says how many pairs, and `OTP_RELOADS_FROM` with which seed they begin.
 
@@ -262,6 +263,7 @@ impl Pair {
             kept[0] += u64::from(is_kept);
         }
         self.compare_shared(&simple, &before, &after);
+        self.replace(&text, &after);
         // What the daemon doesn't know isn't there.
         let (left, known): (BTreeSet<i32>, BTreeSet<i32>) =
             (self.daemon.left().into_iter().collect(), after.values().copied().collect());
@@ -279,6 +281,17 @@ impl Pair {
             lines.iter().filter(|line| !is_stopped(line)).cloned().collect()
         };
         assert_eq!(others(text), others(&wanted), "{}", self.told);
+    }
+
+    /// The program is replaced, and nothing is seen of it.
+    fn replace(&self, text: &[String], before: &BTreeMap<String, i32>) {
+        self.asks(&["reexec"]);
+        let (now, after) = status_of(&self.daemon);
+        assert_eq!(now, text, "{}", self.told);
+        let all = |pids: &BTreeMap<String, i32>| -> BTreeSet<(String, i32)> {
+            pids.iter().map(|(path, pid)| (path.split('#').next().unwrap_or("").to_string(), *pid)).collect()
+        };
+        assert_eq!(all(&after), all(before), "{}", self.told);
     }
 
     fn compare_shared(&self, simple: &[String], before: &BTreeMap<String, i32>, after: &BTreeMap<String, i32>) {

@@ -35,7 +35,7 @@ enum Event {
 
 /// A tree that was opened over the processes that run.
 #[derive(Debug)]
-pub(crate) struct Opened {
+pub struct Opened {
     tree: Tree,
     paths: Vec<String>,
     events: Vec<Event>,
@@ -43,13 +43,13 @@ pub(crate) struct Opened {
 
 /// The processes that run.
 #[derive(Debug, Default)]
-struct Processes {
+pub struct Processes {
     /// By the paths of their children.
-    by_path: BTreeMap<String, ProcessId>,
+    pub by_path: BTreeMap<String, ProcessId>,
     /// Those of a `simple_one_for_one`, by its path.
-    shared: BTreeMap<String, VecDeque<ProcessId>>,
+    pub shared: BTreeMap<String, VecDeque<ProcessId>>,
     /// Supervisors that run, without the `/` behind them.
-    supervisors: BTreeSet<String>,
+    pub supervisors: BTreeSet<String>,
 }
 
 /// The opening of a tree.
@@ -159,22 +159,32 @@ fn record_of(order: &Order) -> Record {
     }
 }
 
+/// Opens a tree over processes that run, of which these supervisors may be down.
+pub fn open_over(
+    loaded: &Loaded,
+    steps: &Steps,
+    processes: Processes,
+    old: &[Shape],
+    reading: Reading,
+) -> Result<Opened, String> {
+    let tree = loaded.files.open().map_err(|error| error.to_string())?;
+    let open = || {
+        let (paths, _) = layout_of(&tree)?;
+        let opened = Opened { tree, paths, events: Vec::new() };
+        let mut opening = Opening { opened, steps, processes, reading };
+        opening.opened.tree.tick(reading)?;
+        opening.go_on()?;
+        opening.start_shared()?;
+        opening.stop_what_is_down(old, &loaded.shapes)?;
+        Ok(opening.opened)
+    };
+    open().map_err(|fault: Fault| fault.to_string())
+}
+
 impl Daemon {
     /// Opens a tree over the processes that run. Nothing is changed.
     pub(crate) fn open_anew(&self, loaded: &Loaded, steps: &Steps) -> Result<Opened, String> {
-        let tree = loaded.files.open().map_err(|error| error.to_string())?;
-        let open = || {
-            let (paths, _) = layout_of(&tree)?;
-            let reading = Reading::from_millis(self.reading);
-            let opened = Opened { tree, paths, events: Vec::new() };
-            let mut opening = Opening { opened, steps, processes: self.processes(), reading };
-            opening.opened.tree.tick(reading)?;
-            opening.go_on()?;
-            opening.start_shared()?;
-            opening.stop_what_is_down(&self.shapes, &loaded.shapes)?;
-            Ok(opening.opened)
-        };
-        open().map_err(|fault: Fault| fault.to_string())
+        open_over(loaded, steps, self.processes(), &self.shapes, Reading::from_millis(self.reading))
     }
 
     fn processes(&self) -> Processes {
