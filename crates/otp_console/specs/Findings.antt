@@ -80,7 +80,7 @@ faults_object said name faults = file_member name ++ codes ", \"faults\": [" ++ 
 unfoldable pub lawful_object : List ℕ → List ℕ
 lawful_object name = file_member name ++ codes ", \"faults\": []}\n"
 
--- the same with something that is said all the same
+-- the object of a lawful file of which something is said all the same
 unfoldable pub warned_object : List ℕ → List ℕ → List ℕ
 warned_object name warning = file_member name ++ codes ", \"faults\": []" ++ text_member (codes ", ") (codes "warning") warning ++ codes "}\n"
 

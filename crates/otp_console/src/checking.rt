@@ -70,7 +70,7 @@ fn text_of_plain(alloc: Global, is_json: bool, name: &str) -> Result<Vec<u8>, Al
     Ok(text)
 }
 
-/// The same where this is said of it.
+/// What is written of a lawful file of which this is said.
 fn text_of_warned(
     alloc: Global,
     is_json: bool,
