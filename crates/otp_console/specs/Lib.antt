@@ -1,5 +1,6 @@
 pub mod Pages
 pub mod Endings
+pub mod Findings
 pub mod Imported
 pub mod Used
 pub mod Runs

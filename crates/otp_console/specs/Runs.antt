@@ -9,17 +9,22 @@ use Rattle.otp_sim.specs.declared.engine.SimEnd.{SimEnd}
 use Rattle.otp_sim.specs.declared.engine.SimEnd.TheVariants as sim
 use Rattle.otp_sim.specs.Runs.{Writes}
 use Rattle.otp_sim.specs.Sim.{opened}
-use Rattle.otp_check.specs.Checks.{IsFirstFault}
+use Rattle.otp_check.specs.Checks.{IsFirstFault, remarked}
+use Rattle.otp_check.specs.declared.finding.Finding.{Finding}
 use Rattle.otp_roles.specs.declared.fault.PlanFault.{PlanFault}
 use Rattle.otp_starts.specs.Unfit.{HasStarts, IsRunnable}
+use Rattle.otp_starts.specs.Unfit as unfit
+use Rattle.otp_starts.specs.declared.finding.StartFinding.{StartFinding}
 use Rattle.otp_ending.specs.Devices.{Files, HasTree, IsUnread}
 use Rattle.otp_ending.specs.Statuses.{status_of}
 use Rattle.otp_ending.specs.Told.{IsSmall, Tells, TellsFirst, goes_on, worse}
 use Rattle.otp_ending.specs.declared.ending.Unwritten.{Unwritten}
 use Rattle.otp_ending.specs.declared.ending.ProgramEnd.{ProgramEnd}
 use Rattle.otp_ending.specs.declared.ending.ProgramEnd.TheVariants.{Done, WordsRefused, NoCommand, WordNotText, FileAsCommand, TreeNotRead, FileNotRead, TreeRefused, FaultsFound, LineRefused, HistoryFull, InputFailed, OutputFailed, OutOfMemory, UnknownClock, NotATime, NeedsFor, CountsTurns, Refused}
+use Rattle.otp_words.specs.declared.words.Checking.{Checking}
 use Rattle.otp_words.specs.declared.words.Command.{Command}
 use Rattle.otp_words.specs.declared.words.Command.TheVariants as command
+use Rattle.otp_console.specs.Findings.{TellsFaults, TellsLawful, TellsUnread}
 use Rattle.otp_console.specs.Trees.{TreeRuns}
 use Rattle.otp_console.specs.Used.{Uses, has_remarks}
 
@@ -60,56 +65,77 @@ Answers OutputFailed old new = IsUnread old new × (old.output.failures < new.ou
 Answers OutOfMemory old new = new ≡ old
 Answers _ old new = ⊥
 
--- a text was written, and so it ends well; or the writer failed
-abbrev pub IsWritten : ProgramEnd → ProgramEnd → Written → Written → Type 0
-IsWritten ending well old new = (ending ≡ well) ⊎ ((ending ≡ OutputFailed) × (old.failures < new.failures))
+-- a text of which this is known was written, and so it ends well; or the writer failed; or there is no memory for the text
+abbrev pub IsWritten : (List ℕ → Type 0) → ProgramEnd → ProgramEnd → Written → Written → Type 0
+IsWritten Tells well ending old new =
+    ((ending ≡ well) × ((text : List ℕ) × (Tells text × Appends old.bytes new.bytes text)))
+    ⊎ (((ending ≡ OutputFailed) × (old.failures < new.failures)) ⊎ ((ending ≡ OutOfMemory) × (new ≡ old)))
 
 -- the file says a tree; and where its starts are checked too, it can be run
 abbrev pub IsLawfulFor : Bool → List ℕ → Type 0
 IsLawfulFor false file = HasTree file
 IsLawfulFor true file = IsRunnable file
 
--- the file says no tree, or one that can't be run for its starts
-abbrev pub HasFaults : List ℕ → Type 0
-HasFaults file = ((why : TreeFault) × IsFirstFault why file) ⊎ ((why : PlanFault) × HasStarts file why)
+-- what was written of a lawful file
+abbrev pub WroteLawful : Checking → List ℕ → Option (List ℕ) → Option (List ℕ) → Type 0
+WroteLawful checking name old new = (text : List ℕ) × (TellsLawful checking.is_json name text × Appends old new text)
 
--- a file was checked, with its starts or without: how that ends says whether it says a tree (which can be run). What is written
--- of its faults is said nowhere
-abbrev pub IsChecked : Bool → ProgramEnd → List ℕ → Written → Written → Type 0
-IsChecked starts Done file old new = IsLawfulFor starts file
-IsChecked starts FaultsFound file old new = HasFaults file
-IsChecked starts OutputFailed file old new = old.failures < new.failures
-IsChecked starts OutOfMemory file old new = new ≡ old
-IsChecked starts _ file old new = ⊥
+-- the file says no tree: the first of what was found is why, and all that was found was written
+pub record WroteFaults (checking : Checking) (name file : List ℕ) (old new : Option (List ℕ)) : Type 0 where
+  pub first : Finding
+  pub others : List Finding
+  pub finds : IsFirstFault first.fault file
+  pub text : List ℕ
+  pub tells : TellsFaults remarked checking.is_json checking.has_all name (first ∷ others) text
+  pub wrote : Appends old new text
+
+-- the file says a tree that can't be run for its starts, and all that was found of them was written
+pub record WroteUnfit (checking : Checking) (name file : List ℕ) (old new : Option (List ℕ)) : Type 0 where
+  pub why : PlanFault
+  pub has : HasStarts file why
+  pub first : StartFinding
+  pub others : List StartFinding
+  pub text : List ℕ
+  pub tells : TellsFaults unfit.remarked checking.is_json checking.has_all name (first ∷ others) text
+  pub wrote : Appends old new text
+
+-- a file of this name was checked, with its starts or without: how that ends says whether it says a tree (which can be run), and
+-- what was written is what was found
+abbrev pub IsChecked : Checking → List ℕ → ProgramEnd → List ℕ → Written → Written → Type 0
+IsChecked checking name Done file old new = IsLawfulFor checking.has_starts file × WroteLawful checking name old.bytes new.bytes
+IsChecked checking name FaultsFound file old new = WroteFaults checking name file old.bytes new.bytes ⊎ WroteUnfit checking name file old.bytes new.bytes
+IsChecked checking name OutputFailed file old new = old.failures < new.failures
+IsChecked checking name OutOfMemory file old new = new ≡ old
+IsChecked checking name _ file old new = ⊥
 
 -- the check of a file whose bytes are known to be so: it can't be read, which is written, or it was checked
-abbrev pub Checks : Bool → (List ℕ → Type 0) → ProgramEnd → Written → Written → Type 0
-Checks starts Holds ending old new =
-    IsWritten ending FileNotRead old new ⊎ ((ending ≡ OutOfMemory) × (new ≡ old))
-    ⊎ ((file : List ℕ) × ((Holds file × IsSmall file) × IsChecked starts ending file old new))
+abbrev pub Checks : Checking → (List ℕ → Type 0) → List ℕ → ProgramEnd → Written → Written → Type 0
+Checks checking Holds name ending old new =
+    IsWritten (TellsUnread checking.is_json name) FileNotRead ending old new ⊎ ((ending ≡ OutOfMemory) × (new ≡ old))
+    ⊎ ((file : List ℕ) × ((Holds file × IsSmall file) × IsChecked checking name ending file old new))
 
 -- these files were checked, one after the other, and after each the next could be; before them it was to end so
-abbrev pub ChecksEach : {T : Type 0} → Bool → (T → List ℕ → Type 0) → List T → ProgramEnd → ProgramEnd → Written → Written → Type 0
-ChecksEach starts Holds [] so_far ending old new = (ending ≡ so_far) × (new ≡ old)
-ChecksEach starts Holds (name ∷ names) so_far ending old new =
-    (next : ProgramEnd) × (mid : Written) × (goes_on next ≡ true) × Checks starts (Holds name) next old mid
-    × ChecksEach starts Holds names (worse so_far next) ending mid new
+abbrev pub ChecksEach : {T : Type 0} → Checking → (T → List ℕ → Type 0) → (T → List ℕ) → List T → ProgramEnd → ProgramEnd → Written → Written → Type 0
+ChecksEach checking Holds called [] so_far ending old new = (ending ≡ so_far) × (new ≡ old)
+ChecksEach checking Holds called (name ∷ names) so_far ending old new =
+    (next : ProgramEnd) × (mid : Written) × (goes_on next ≡ true) × Checks checking (Holds name) (called name) next old mid
+    × ChecksEach checking Holds called names (worse so_far next) ending mid new
 
 -- the first of these files were checked so, and the check of the next one ended it
-abbrev pub ChecksFirst : {T : Type 0} → Bool → (T → List ℕ → Type 0) → List T → ProgramEnd → Written → Written → Type 0
-ChecksFirst {T} starts Holds names ending old new =
+abbrev pub ChecksFirst : {T : Type 0} → Checking → (T → List ℕ → Type 0) → (T → List ℕ) → List T → ProgramEnd → Written → Written → Type 0
+ChecksFirst {T} checking Holds called names ending old new =
     (first : List T) × (name : T) × (others : List T) × (so_far : ProgramEnd) × (mid : Written)
-    × (names ≡ first ++ name ∷ others) × ChecksEach starts Holds first Done so_far old mid × (goes_on ending ≡ false) × Checks starts (Holds name) ending mid new
+    × (names ≡ first ++ name ∷ others) × ChecksEach checking Holds called first Done so_far old mid × (goes_on ending ≡ false) × Checks checking (Holds name) (called name) ending mid new
 
 -- these files were checked, or the first of them up to one whose check ended it
-abbrev pub ChecksAll : {T : Type 0} → Bool → (T → List ℕ → Type 0) → List T → ProgramEnd → Written → Written → Type 0
-ChecksAll starts Holds names ending old new = ChecksEach starts Holds names Done ending old new ⊎ ChecksFirst starts Holds names ending old new
+abbrev pub ChecksAll : {T : Type 0} → Checking → (T → List ℕ → Type 0) → (T → List ℕ) → List T → ProgramEnd → Written → Written → Type 0
+ChecksAll checking Holds called names ending old new = ChecksEach checking Holds called names Done ending old new ⊎ ChecksFirst checking Holds called names ending old new
 
 -- what a command asks for was done
 abbrev pub Does : Files → TreeRuns → Command → ProgramEnd → Devices → Devices → Type 0
 Does known trees (command.Sim file) ending old new = Simulates (known.holds file.now) ending old new
 Does known trees (command.Check files checking) ending old new =
-    IsUnread old new × ChecksAll checking.has_starts (λ name. known.holds name.now) files.items ending old.output new.output
+    IsUnread old new × ChecksAll checking (λ name. known.holds name.now) (λ name. name.now) files.items ending old.output new.output
 Does known trees (command.Run file settings shows) ending old new =
     IsUnread old new × trees.by_turns (known.holds file.now) shows.is_json file.now settings.counted ending old.output new.output
 Does known trees (command.Serve file settings serving shows) ending old new =

@@ -1,19 +1,18 @@
 //! `check`: what is wrong in a tree file?
 
-ghost use Rattle.std.specs.Prelude.{◌≡◌, ◌≤◌, ◌<◌, true, OnErr};
+ghost use Rattle.std.specs.Prelude.{◌≡◌, true, IfOk};
+ghost use Rattle.otp_console.specs.Findings.{TellsFaults, TellsLawful, TellsPlain, TellsUnread, TellsWarned, TellsWhy};
 ghost use Rattle.otp_console.specs.Runs.{IsChecked, IsWritten};
 ghost use Rattle.otp_ending.specs.declared.ending.ProgramEnd.TheVariants.{Done, FaultsFound, FileNotRead};
 
-use crate::objects::{write_fault_object, write_lawful_object, write_unread_object};
+use crate::findings::{shown_name, write_line, write_some, write_unread_line};
+use crate::objects::{put_fault_object, put_lawful_object, put_unread_object, put_warned_object};
 use otp_check::{Remark, check, warning};
-use otp_ending::{ProgramEnd, write_numbered, write_three};
+use otp_ending::ProgramEnd;
 use otp_sim::{Failed, Output, write_all};
 use otp_starts::find_unfit;
 use otp_words::Checking;
-use std::alloc::Global;
-
-/// How many findings of a file are written where not all are wanted.
-const MOST_WRITTEN: usize = 20;
+use std::alloc::{AllocError, Global};
 
 /// Writes all that is wrong in a file, a line for each fault, that for which its tree is refused first.
 pub fn check_file<'a, W: Output>(
@@ -23,7 +22,7 @@ pub fn check_file<'a, W: Output>(
     checking: Checking,
     output: &mut W,
 ) -> ProgramEnd<'a>
-    ensures { IsChecked checking.has_starts result file.now
+    ensures { IsChecked checking name.now result file.now
         (W.seen output.old) (W.seen output.new) }
 {
     let Ok(findings) = check(alloc, file) else {
@@ -32,7 +31,7 @@ pub fn check_file<'a, W: Output>(
     match findings.as_slice() {
         [] if checking.has_starts => check_starts(alloc, name, file, checking, output),
         [] => write_lawful(alloc, name, file, checking, output),
-        faults => write_faults(name, faults, checking, output),
+        faults => write_faults(alloc, name, faults, checking, output),
     }
 }
 
@@ -45,7 +44,7 @@ fn check_starts<'a, W: Output>(
     output: &mut W,
 ) -> ProgramEnd<'a>
     requires starts { checking.has_starts ≡ true }
-    ensures { IsChecked checking.has_starts result file.now
+    ensures { IsChecked checking name.now result file.now
         (W.seen output.old) (W.seen output.new) }
 {
     let Ok(findings) = find_unfit(alloc, file) else {
@@ -53,7 +52,55 @@ fn check_starts<'a, W: Output>(
     };
     match findings.as_slice() {
         [] => write_lawful(alloc, name, file, checking, output),
-        unfit => write_faults(name, unfit, checking, output),
+        unfit => write_faults(alloc, name, unfit, checking, output),
+    }
+}
+
+/// What is written of a lawful file.
+fn text_of_plain(alloc: Global, is_json: bool, name: &str) -> Result<Vec<u8>, AllocError>
+    ensures { IfOk result (λ text. TellsPlain is_json name.now text.items) }
+{
+    let mut text = Vec::new(alloc);
+    if is_json {
+        put_lawful_object(name.as_bytes(), &mut text)?;
+        return Ok(text);
+    }
+    let shown = shown_name(alloc, name)?;
+    write_line(shown.as_slice(), None, b"a lawful tree", &mut text)?;
+    Ok(text)
+}
+
+/// What is written of a lawful file of which this is said.
+fn text_of_warned(
+    alloc: Global,
+    is_json: bool,
+    name: &str,
+    warning: &str,
+) -> Result<Vec<u8>, AllocError>
+    ensures { IfOk result (λ text. TellsWarned is_json name.now warning.now text.items) }
+{
+    let mut text = Vec::new(alloc);
+    if is_json {
+        put_warned_object(name.as_bytes(), warning.as_bytes(), &mut text)?;
+        return Ok(text);
+    }
+    let shown = shown_name(alloc, name)?;
+    write_line(shown.as_slice(), None, warning.as_bytes(), &mut text)?;
+    Ok(text)
+}
+
+/// What is written of a lawful file, of which something may be said all the same.
+fn text_of_lawful(
+    alloc: Global,
+    is_json: bool,
+    name: &str,
+    file: &[u8],
+) -> Result<Vec<u8>, AllocError>
+    ensures { IfOk result (λ text. TellsLawful is_json name.now text.items) }
+{
+    match warning(alloc, file) {
+        None => text_of_plain(alloc, is_json, name),
+        Some(warning) => text_of_warned(alloc, is_json, name, warning),
     }
 }
 
@@ -65,172 +112,91 @@ fn write_lawful<'a, W: Output>(
     checking: Checking,
     output: &mut W,
 ) -> ProgramEnd<'a>
-    ensures { IsWritten result Done (W.seen output.old) (W.seen output.new) }
+    ensures { IsWritten (TellsLawful checking.is_json name.now) Done result (W.seen output.old) (W.seen output.new) }
 {
-    let warning = warning(alloc, file);
-    let written = if checking.is_json {
-        write_lawful_object(name, warning, output)
-    } else {
-        write_line(
-            name,
-            None,
-            warning.unwrap_or("a lawful tree").as_bytes(),
-            output,
-        )
+    let Ok(text) = text_of_lawful(alloc, checking.is_json, name, file) else {
+        return ProgramEnd::OutOfMemory;
     };
-    match written {
+    match write_all(output, text.as_slice()) {
         Ok(()) => ProgramEnd::Done,
         Err(Failed) => ProgramEnd::OutputFailed,
     }
 }
 
+/// What is written of a file with these faults.
+fn text_of_faults<F: Remark>(
+    alloc: Global,
+    is_json: bool,
+    has_all: bool,
+    name: &str,
+    faults: &[F],
+) -> Result<Vec<u8>, AllocError>
+    ensures { IfOk result (λ text. TellsFaults F.remarked is_json has_all name.now faults.now text.items) }
+{
+    let mut text = Vec::new(alloc);
+    if is_json {
+        put_fault_object(name.as_bytes(), faults, &mut text)?;
+        return Ok(text);
+    }
+    let shown = shown_name(alloc, name)?;
+    write_some(has_all, shown.as_slice(), faults, &mut text)?;
+    Ok(text)
+}
+
 /// Writes what is wrong in a file.
 fn write_faults<'a, W: Output, F: Remark>(
+    alloc: Global,
     name: &'a str,
     faults: &[F],
     checking: Checking,
     output: &mut W,
 ) -> ProgramEnd<'a>
-    ensures { IsWritten result FaultsFound (W.seen output.old) (W.seen output.new) }
+    ensures { IsWritten (TellsFaults F.remarked checking.is_json checking.has_all name.now faults.now) FaultsFound result
+        (W.seen output.old) (W.seen output.new) }
 {
-    let written = if checking.is_json {
-        write_fault_object(name, faults, output)
-    } else {
-        write_some(name, faults, checking.has_all, output)
+    let Ok(text) = text_of_faults(alloc, checking.is_json, checking.has_all, name, faults) else {
+        return ProgramEnd::OutOfMemory;
     };
-    match written {
+    match write_all(output, text.as_slice()) {
         Ok(()) => ProgramEnd::FaultsFound,
         Err(Failed) => ProgramEnd::OutputFailed,
     }
 }
 
-/// Writes a line for each fault, or for each of the first, and how many are not written.
-fn write_some<W: Output, F: Remark>(
+/// What is written of a file that can't be read.
+fn text_of_unread(
+    alloc: Global,
+    is_json: bool,
     name: &str,
-    faults: &[F],
-    has_all: bool,
-    output: &mut W,
-) -> Result<(), Failed>
-    ensures failed { OnErr result ((W.seen output.old).failures < (W.seen output.new).failures) }
-    ensures kept { (W.seen output.old).failures ≤ (W.seen output.new).failures }
+    why: &str,
+) -> Result<Vec<u8>, AllocError>
+    ensures { IfOk result (λ text. TellsWhy is_json name.now why.now text.items) }
 {
-    let shown = if has_all {
-        faults
-    } else {
-        faults.get(..MOST_WRITTEN).unwrap_or(faults)
-    };
-    write_lines(name, shown, output)?;
-    let hidden = faults.len().saturating_sub(shown.len());
-    if hidden == 0 {
-        return Ok(());
+    let mut text = Vec::new(alloc);
+    if is_json {
+        put_unread_object(name.as_bytes(), why.as_bytes(), &mut text)?;
+        return Ok(text);
     }
-    write_name(name, output)?;
-    write_numbered(
-        output,
-        b": and ",
-        hidden as u64,
-        b" more; --all shows them\n",
-    )
-}
-
-/// Writes a line for each fault.
-fn write_lines<W: Output, F: Remark>(name: &str, faults: &[F], output: &mut W) -> Result<(), Failed>
-    ensures failed { OnErr result ((W.seen output.old).failures < (W.seen output.new).failures) }
-    ensures kept { (W.seen output.old).failures ≤ (W.seen output.new).failures }
-{
-    for fault in faults {
-        write_line(name, fault.line(), fault.text(), output)?;
-    }
-    Ok(())
+    let shown = shown_name(alloc, name)?;
+    write_unread_line(alloc, shown.as_slice(), why.as_bytes(), &mut text)?;
+    Ok(text)
 }
 
 /// Writes that a file can't be read, and why.
 pub(crate) fn write_unread<'a, W: Output>(
+    alloc: Global,
     name: &'a str,
     why: &str,
     checking: Checking,
     output: &mut W,
 ) -> ProgramEnd<'a>
-    ensures { IsWritten result FileNotRead (W.seen output.old) (W.seen output.new) }
+    ensures { IsWritten (TellsUnread checking.is_json name.now) FileNotRead result (W.seen output.old) (W.seen output.new) }
 {
-    let written = if checking.is_json {
-        write_unread_object(name, why, output)
-    } else {
-        write_unread_line(name, why, output)
+    let Ok(text) = text_of_unread(alloc, checking.is_json, name, why) else {
+        return ProgramEnd::OutOfMemory;
     };
-    match written {
+    match write_all(output, text.as_slice()) {
         Ok(()) => ProgramEnd::FileNotRead,
         Err(Failed) => ProgramEnd::OutputFailed,
     }
-}
-
-/// Writes the line of a file that can't be read.
-fn write_unread_line<W: Output>(name: &str, why: &str, output: &mut W) -> Result<(), Failed>
-    ensures failed { OnErr result ((W.seen output.old).failures < (W.seen output.new).failures) }
-    ensures kept { (W.seen output.old).failures ≤ (W.seen output.new).failures }
-{
-    write_name(name, output)?;
-    write_three(output, b": can't be read: ", why.as_bytes(), b"\n")
-}
-
-/// Whether a letter moves the cursor, or changes in which order others are shown.
-fn is_strange(letter: char) -> bool {
-    letter.is_control()
-        || matches!(letter, '\u{200b}'..='\u{200f}' | '\u{2028}'..='\u{202e}' | '\u{2060}'..='\u{206f}' | '\u{feff}')
-}
-
-/// Writes a letter escaped, as in a text of Rust.
-fn write_escaped<W: Output>(letter: char, output: &mut W) -> Result<(), Failed>
-    ensures failed { OnErr result ((W.seen output.old).failures < (W.seen output.new).failures) }
-    ensures kept { (W.seen output.old).failures ≤ (W.seen output.new).failures }
-{
-    for part in letter.escape_debug() {
-        let mut room = [0u8; 4];
-        write_all(output, part.encode_utf8(&mut room).as_bytes())?;
-    }
-    Ok(())
-}
-
-/// Writes the letters of a file's name, each escaped.
-fn write_letters<W: Output>(name: &str, output: &mut W) -> Result<(), Failed>
-    ensures failed { OnErr result ((W.seen output.old).failures < (W.seen output.new).failures) }
-    ensures kept { (W.seen output.old).failures ≤ (W.seen output.new).failures }
-{
-    for letter in name.chars() {
-        write_escaped(letter, output)?;
-    }
-    Ok(())
-}
-
-/// Writes the name of a file on one line, escaped where a letter is strange. Of an empty name stand two quotes.
-fn write_name<W: Output>(name: &str, output: &mut W) -> Result<(), Failed>
-    ensures failed { OnErr result ((W.seen output.old).failures < (W.seen output.new).failures) }
-    ensures kept { (W.seen output.old).failures ≤ (W.seen output.new).failures }
-{
-    if name.is_empty() {
-        return write_all(output, b"\"\"");
-    }
-    if name.chars().any(is_strange) {
-        return write_letters(name, output);
-    }
-    write_all(output, name.as_bytes())
-}
-
-/// Writes a line that begins with a file's name, and the number of its line, if that is known.
-fn write_line<W: Output>(
-    name: &str,
-    line: Option<u64>,
-    text: &[u8],
-    output: &mut W,
-) -> Result<(), Failed>
-    ensures failed { OnErr result ((W.seen output.old).failures < (W.seen output.new).failures) }
-    ensures kept { (W.seen output.old).failures ≤ (W.seen output.new).failures }
-{
-    write_name(name, output)?;
-    match line {
-        Some(line) => write_numbered(output, b":", line, b": ")?,
-        None => write_all(output, b": ")?,
-    }
-    write_all(output, text)?;
-    write_all(output, b"\n")
 }

@@ -5,6 +5,7 @@
 
 pub mod checking;
 pub mod console;
+mod findings;
 mod importing;
 mod objects;
 mod pages;

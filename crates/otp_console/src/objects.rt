@@ -3,92 +3,113 @@
 //! A line that isn't known is `null`. An object of a lawful file has no faults, and may have a `warning`; that of a file that
 //! can't be read has `unread` in the place of `faults`.
 
-ghost use Rattle.std.specs.Prelude.{◌≤◌, ◌<◌, OnErr};
+ghost use Rattle.std.specs.Prelude.{◌≡◌, ◌++◌, OnOk};
+ghost use Rattle.otp_console.specs.Findings.{faults_object, file_member, lawful_object, next_object, next_objects, said_object, said_objects, unread_object, warned_object};
 
 use otp_check::Remark;
-use otp_json::{write_json_line, write_json_text};
-use otp_sim::{Failed, Output, write_all};
+use otp_json::{put_optional, put_text};
+use std::alloc::AllocError;
 
-/// Writes the front of the object of a file.
-fn write_head<W: Output>(name: &str, output: &mut W) -> Result<(), Failed>
-    ensures failed { OnErr result ((W.seen output.old).failures < (W.seen output.new).failures) }
-    ensures kept { (W.seen output.old).failures ≤ (W.seen output.new).failures }
+/// Appends the front of the object of a file.
+#[tactic(auto, unfolding(crate::specs::Findings::file_member))]
+fn put_file(name: &[u8], out: &mut Vec<u8>) -> Result<(), AllocError>
+    ensures { OnOk result (out.new.items ≡ out.old.items ++ file_member name.now) }
 {
-    write_all(output, b"{\"file\": ")?;
-    write_json_text(output, name.as_bytes())
+    put_text(b"{", b"file", name, out)
 }
 
-/// Writes the object of a lawful file.
-pub(crate) fn write_lawful_object<W: Output>(
-    name: &str,
-    warning: Option<&str>,
-    output: &mut W,
-) -> Result<(), Failed>
-    ensures failed { OnErr result ((W.seen output.old).failures < (W.seen output.new).failures) }
-    ensures kept { (W.seen output.old).failures ≤ (W.seen output.new).failures }
+/// Appends the object of a lawful file.
+#[tactic(auto, unfolding(crate::specs::Findings::lawful_object))]
+pub(crate) fn put_lawful_object(name: &[u8], out: &mut Vec<u8>) -> Result<(), AllocError>
+    ensures { OnOk result (out.new.items ≡ out.old.items ++ lawful_object name.now) }
 {
-    write_head(name, output)?;
-    write_all(output, b", \"faults\": []")?;
-    if let Some(warning) = warning {
-        write_all(output, b", \"warning\": ")?;
-        write_json_text(output, warning.as_bytes())?;
-    }
-    write_all(output, b"}\n")
+    put_file(name, out)?;
+    out.extend_from_slice(b", \"faults\": []}\n")
 }
 
-/// Writes the object of a file that can't be read.
-pub(crate) fn write_unread_object<W: Output>(
-    name: &str,
-    why: &str,
-    output: &mut W,
-) -> Result<(), Failed>
-    ensures failed { OnErr result ((W.seen output.old).failures < (W.seen output.new).failures) }
-    ensures kept { (W.seen output.old).failures ≤ (W.seen output.new).failures }
+/// Appends the object of a lawful file of which this is said all the same.
+#[tactic(auto, unfolding(crate::specs::Findings::warned_object))]
+pub(crate) fn put_warned_object(
+    name: &[u8],
+    warning: &[u8],
+    out: &mut Vec<u8>,
+) -> Result<(), AllocError>
+    ensures { OnOk result (out.new.items ≡ out.old.items ++ warned_object name.now warning.now) }
 {
-    write_head(name, output)?;
-    write_all(output, b", \"unread\": ")?;
-    write_json_text(output, why.as_bytes())?;
-    write_all(output, b"}\n")
+    put_file(name, out)?;
+    out.extend_from_slice(b", \"faults\": []")?;
+    put_text(b", ", b"warning", warning, out)?;
+    out.extend_from_slice(b"}\n")
 }
 
-/// Writes the object of a fault.
-fn write_fault<W: Output, F: Remark>(fault: &F, output: &mut W) -> Result<(), Failed>
-    ensures failed { OnErr result ((W.seen output.old).failures < (W.seen output.new).failures) }
-    ensures kept { (W.seen output.old).failures ≤ (W.seen output.new).failures }
+/// Appends the object of a file that can't be read.
+#[tactic(auto, unfolding(crate::specs::Findings::unread_object))]
+pub(crate) fn put_unread_object(
+    name: &[u8],
+    why: &[u8],
+    out: &mut Vec<u8>,
+) -> Result<(), AllocError>
+    ensures { OnOk result (out.new.items ≡ out.old.items ++ unread_object name.now why.now) }
 {
-    write_all(output, b"{\"line\": ")?;
-    write_json_line(output, fault.line())?;
-    write_all(output, b", \"text\": ")?;
-    write_json_text(output, fault.text())?;
-    write_all(output, b"}")
+    put_file(name, out)?;
+    put_text(b", ", b"unread", why, out)?;
+    out.extend_from_slice(b"}\n")
 }
 
-/// Writes the objects of faults behind the first, each after a comma.
-fn write_next<W: Output, F: Remark>(faults: &[F], output: &mut W) -> Result<(), Failed>
-    ensures failed { OnErr result ((W.seen output.old).failures < (W.seen output.new).failures) }
-    ensures kept { (W.seen output.old).failures ≤ (W.seen output.new).failures }
+/// Appends the object of a fault.
+#[tactic(auto, unfolding(crate::specs::Findings::said_object))]
+fn put_fault<F: Remark>(fault: &F, out: &mut Vec<u8>) -> Result<(), AllocError>
+    ensures { OnOk result (out.new.items ≡ out.old.items ++ said_object (F.remarked fault.now)) }
+{
+    put_optional(b"{", b"line", fault.line(), out)?;
+    put_text(b", ", b"text", fault.text(), out)?;
+    out.extend_from_slice(b"}")
+}
+
+/// Appends the object of a fault behind another one.
+#[tactic(auto, unfolding(crate::specs::Findings::next_object))]
+fn put_next<F: Remark>(fault: &F, out: &mut Vec<u8>) -> Result<(), AllocError>
+    ensures { OnOk result (out.new.items ≡ out.old.items ++ next_object (F.remarked fault.now)) }
+{
+    out.extend_from_slice(b", ")?;
+    put_fault(fault, out)
+}
+
+/// Appends the objects of faults behind the first.
+fn put_others<F: Remark>(faults: &[F], out: &mut Vec<u8>) -> Result<(), AllocError>
+    ensures { OnOk result (out.new.items ≡ out.old.items ++ next_objects F.remarked faults.now) }
 {
     for fault in faults {
-        write_all(output, b", ")?;
-        write_fault(fault, output)?;
+        put_next(fault, out)?;
     }
     Ok(())
 }
 
-/// Writes the object of a file that has faults.
-pub(crate) fn write_fault_object<W: Output, F: Remark>(
-    name: &str,
-    faults: &[F],
-    output: &mut W,
-) -> Result<(), Failed>
-    ensures failed { OnErr result ((W.seen output.old).failures < (W.seen output.new).failures) }
-    ensures kept { (W.seen output.old).failures ≤ (W.seen output.new).failures }
+/// Appends the objects of faults.
+#[tactic(auto, unfolding(crate::specs::Findings::said_objects))]
+fn put_faults<F: Remark>(faults: &[F], out: &mut Vec<u8>) -> Result<(), AllocError>
+    ensures { OnOk result (out.new.items ≡ out.old.items ++ said_objects F.remarked faults.now) }
 {
-    write_head(name, output)?;
-    write_all(output, b", \"faults\": [")?;
-    if let [first, others @ ..] = faults {
-        write_fault(first, output)?;
-        write_next(others, output)?;
+    match faults {
+        [] => Ok(()),
+        [first, others @ ..] => {
+            put_fault(first, out)?;
+            put_others(others, out)
+        }
     }
-    write_all(output, b"]}\n")
+}
+
+/// Appends the object of a file that has faults.
+#[tactic(auto, unfolding(crate::specs::Findings::faults_object))]
+pub(crate) fn put_fault_object<F: Remark>(
+    name: &[u8],
+    faults: &[F],
+    out: &mut Vec<u8>,
+) -> Result<(), AllocError>
+    ensures { OnOk result (out.new.items ≡ out.old.items ++ faults_object F.remarked name.now faults.now) }
+{
+    put_file(name, out)?;
+    out.extend_from_slice(b", \"faults\": [")?;
+    put_faults(faults, out)?;
+    out.extend_from_slice(b"]}\n")
 }

@@ -137,8 +137,8 @@ fn check_all<'a, F: TreeFiles, W: Output>(
     checking: Checking,
     output: &mut W,
 ) -> ProgramEnd<'a>
-    ensures { ChecksAll checking.has_starts (λ name. (F.known files.now).holds name.now)
-        names.now result (W.seen output.old) (W.seen output.new) }
+    ensures { ChecksAll checking (λ name. (F.known files.now).holds name.now)
+        (λ name. name.now) names.now result (W.seen output.old) (W.seen output.new) }
 {
     let mut ending = ProgramEnd::Done;
     for name in names {
@@ -159,13 +159,13 @@ fn check_named<'a, F: TreeFiles, W: Output>(
     checking: Checking,
     output: &mut W,
 ) -> ProgramEnd<'a>
-    ensures { Checks checking.has_starts ((F.known files.now).holds name.now) result
+    ensures { Checks checking ((F.known files.now).holds name.now) name.now result
         (W.seen output.old) (W.seen output.new) }
 {
     match read_small(files, name) {
         Ok(file) => check_file(alloc, name, &file, checking, output),
         Err(Unread::OutOfMemory) => ProgramEnd::OutOfMemory,
-        Err(Unread::Since(why)) => write_unread(name, why, checking, output),
+        Err(Unread::Since(why)) => write_unread(alloc, name, why, checking, output),
     }
 }
 

@@ -1,5 +1,6 @@
 -- What is found of the starts of a file's children (own).
 use Rattle.std.specs.Prelude.{◌≡◌, ℕ, List, [], ◌∷◌, Some, None, Ok}
+use Rattle.otp_check.specs.Texts.{Remarked}
 use Rattle.otp_file.specs.Files.{Says}
 use Rattle.otp_file.specs.Trees.{Tree, tables_of}
 use Rattle.otp_roles.specs.Faults.{plan_fault}
@@ -18,3 +19,7 @@ HasStarts file why = (tree : Tree) × (Says file (Ok tree) × (plan_fault (table
 abbrev pub FindsUnfit : List StartFinding → List ℕ → Type 0
 FindsUnfit [] file = IsRunnable file
 FindsUnfit (first ∷ others) file = (why : PlanFault) × HasStarts file why
+
+-- what a finding says
+abbrev pub remarked : StartFinding → Remarked
+remarked finding = record { line = finding.line; text = finding.text.items }

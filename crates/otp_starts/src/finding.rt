@@ -17,6 +17,10 @@ pub struct StartFinding {
 }
 
 impl Remark for StartFinding {
+    ghost use Rattle.otp_starts.specs.Unfit.{remarked};
+
+    ghost remarked = { remarked };
+
     fn line(&self) -> Option<u64> {
         self.line
     }
