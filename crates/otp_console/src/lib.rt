@@ -6,6 +6,7 @@
 pub mod checking;
 pub mod console;
 mod importing;
+mod logs;
 mod objects;
 mod pages;
 pub mod program;

@@ -6,7 +6,7 @@ ghost use Rattle.otp_words.specs.Asked.{AreTrialShowsOf, AsksUse, clock_in, cloc
 ghost use Rattle.otp_words.specs.Words.{IsHandedOn};
 
 use crate::getters::{form_in, is_set, value_of, width_in};
-use crate::words::{TrialShows, Usage, WordsFault};
+use crate::words::{LogReading, TrialShows, Usage, WordsFault};
 use clap::ArgMatches;
 use otp_trial::Clock;
 use otp_try::Writer;
@@ -99,8 +99,13 @@ pub(crate) fn read_replay<'a>(found: &ArgMatches<'a>) -> Result<Usage<'a>, Words
         return Err(WordsFault::NoCommand);
     };
     let shows = trial_shows_in(found)?;
+    let reading = LogReading {
+        ids: value_of(found, "ids"),
+        is_strict: is_set(found, "strict"),
+    };
     Ok(Usage::Replay {
         log,
+        reading,
         is_listed: is_set(found, "unmatched"),
         shows,
     })
