@@ -1,12 +1,11 @@
 //! The log of `otp-procs`, as text and as JSON.
 
-use crate::journal::text_of;
-use crate::moment::{Moment, read_moment};
-use crate::seeking::{
-    behind_word, first_word, from_place, is_at, place_behind, place_of_bytes, up_to,
-};
-use crate::work::{Called, Event, Work};
+use crate::keys::{number_of, text_of};
 use otp_foreign::{Range, byte_of};
+use otp_logged::{
+    Called, Event, Moment, Work, behind_word, first_word, from_place, is_at, is_text, place_behind,
+    place_of_bytes, read_moment, up_to,
+};
 use std::alloc::{AllocError, Global};
 
 /// What a line of such a log says.
@@ -28,34 +27,21 @@ pub(crate) struct Daemon {
     asked: Vec<Range>,
 }
 
-/// The part of a line that an object's number has behind this key.
-fn number_of(text: &[u8], line: Range, key: &[u8]) -> Option<Range> {
-    let place = place_behind(text, line, key)?;
-    let mut end = place;
-    for at in place..line.end {
-        if !byte_of(text, at).is_ascii_digit() {
-            break;
-        }
-        end = at.saturating_add(1);
-    }
-    Some(up_to(from_place(line, place), end))
-}
-
 /// What a line says that is an object of JSON.
 fn read_object(text: &[u8], line: Range) -> Option<Line> {
-    let time = text_of(text, line, b"{\"time\":\"")?;
+    let time = text_of(text, line, b"\"time\"")?;
     let (moment, _) = read_moment(text, time.start)?;
-    let what = match text_of(text, line, b",\"event\":\"") {
+    let what = match text_of(text, line, b"\"event\"") {
         Some(what) => what,
-        None => text_of(text, line, b",\"order\":\"")?,
+        None => text_of(text, line, b"\"order\"")?,
     };
     let nothing = up_to(line, line.start);
     Some(Line {
         moment,
         what,
-        path: text_of(text, line, b",\"path\":\"").unwrap_or(nothing),
-        number: number_of(text, line, b",\"number\":").unwrap_or(nothing),
-        reason: text_of(text, line, b",\"reason\":\"").unwrap_or(nothing),
+        path: text_of(text, line, b"\"path\"").unwrap_or(nothing),
+        number: number_of(text, line, b"\"number\"").unwrap_or(nothing),
+        reason: text_of(text, line, b"\"reason\"").unwrap_or(nothing),
     })
 }
 
@@ -82,6 +68,16 @@ impl Daemon {
         }
     }
 
+    /// The process of this number is asked to end, or killed. One that was asked before is noted once.
+    fn note_asked(&mut self, text: &[u8], number: Range) -> Result<(), AllocError> {
+        for other in &self.asked {
+            if is_text(other.of(text), number.of(text)) {
+                return Ok(());
+            }
+        }
+        self.asked.push(number).map_err(|_| AllocError)
+    }
+
     /// Whether the process of this number was asked to end; it is forgotten.
     fn was_asked(&mut self, text: &[u8], number: Range) -> bool {
         for place in 0..self.asked.len() {
@@ -99,7 +95,7 @@ impl Daemon {
         let called = Called::alone(said.path);
         work.reason.clear();
         match said.what.of(text) {
-            b"ask" | b"kill" => self.asked.push(said.number).map_err(|_| AllocError),
+            b"ask" | b"kill" => self.note_asked(text, said.number),
             b"up" => work.take(Event::Up, said.moment, called),
             b"stop" => work.stop(said.moment),
             b"exit" | b"fail" => {

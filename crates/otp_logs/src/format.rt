@@ -1,11 +1,12 @@
 //! Which program wrote a log.
 
-use crate::lines::{line_behind, line_from};
-use crate::moment::{read_clock, read_moment};
-use crate::seeking::{
-    behind_word, first_word, from_place, is_at, is_text, place_of_bytes, stripped,
+use crate::keys::text_of;
+use crate::objects::message_of;
+use otp_foreign::{Range, byte_of, line_at};
+use otp_logged::{
+    behind_word, first_word, from_place, is_at, is_text, line_behind, place_behind, place_of_bytes,
+    read_clock, read_moment, stripped,
 };
-use otp_foreign::{Range, byte_of};
 
 /// Which program wrote a log, and how.
 #[derive(Clone, Copy)]
@@ -19,6 +20,8 @@ pub enum Format {
     Journal,
     /// The same as `journalctl -o json` prints it.
     JournalObjects,
+    /// Erlang's or Elixir's logger, with a formatter of JSON.
+    Objects,
     /// `otp-procs`, as text.
     Daemon,
     /// `otp-procs`, with `--json`.
@@ -34,6 +37,7 @@ impl Format {
             Format::Supervisord => "a log of supervisord",
             Format::Journal => "a journal of systemd",
             Format::JournalObjects => "a journal of systemd in JSON",
+            Format::Objects => "a log of Erlang or Elixir in JSON",
             Format::Daemon => "a log of otp-procs",
             Format::DaemonObjects => "a log of otp-procs in JSON",
         }
@@ -57,6 +61,20 @@ fn is_own_word(word: &[u8]) -> bool {
         || is_text(word, b"stop")
 }
 
+/// Whether Elixir says so of a child, from the first word of a message on.
+fn is_elixirs(text: &[u8], message: Range) -> bool {
+    if is_at(text, message.start, b"Child ") {
+        return place_of_bytes(text, message, b" of Supervisor ").is_some();
+    }
+    is_at(text, message.start, b"GenServer ")
+        && place_of_bytes(text, message, b" terminating").is_some()
+}
+
+/// Whether Erlang or Elixir says so of a child in a message.
+fn is_of_loggers(text: &[u8], message: Range) -> bool {
+    is_elixirs(text, message) || place_of_bytes(text, message, b"upervisor: ").is_some()
+}
+
 /// What a line says that is an object of JSON.
 fn sign_of_object(text: &[u8], line: Range) -> Sign {
     if is_at(text, line.start, b"{\"time\":\"")
@@ -64,10 +82,13 @@ fn sign_of_object(text: &[u8], line: Range) -> Sign {
     {
         return Sign::Of(Format::DaemonObjects);
     }
-    if place_of_bytes(text, line, b"\"__REALTIME_TIMESTAMP\":\"").is_some() {
+    if text_of(text, line, b"\"__REALTIME_TIMESTAMP\"").is_some() {
         return Sign::Of(Format::JournalObjects);
     }
-    Sign::Nothing
+    match message_of(text, line) {
+        Some(message) if is_of_loggers(text, message) => Sign::Of(Format::Objects),
+        _ => Sign::Nothing,
+    }
 }
 
 /// Whether supervisord's level stands at a place.
@@ -106,11 +127,17 @@ fn is_of_daemon(text: &[u8], words: Range) -> bool {
 
 /// Whether Elixir's Logger writes so of a child, behind the time.
 fn is_of_elixir(text: &[u8], rest: Range) -> bool {
-    let of_server = place_of_bytes(text, rest, b"] GenServer ").is_some()
-        && place_of_bytes(text, rest, b" terminating").is_some();
-    of_server
-        || (place_of_bytes(text, rest, b"] Child ").is_some()
-            && place_of_bytes(text, rest, b" of Supervisor ").is_some())
+    match place_behind(text, rest, b"] ") {
+        Some(place) => is_elixirs(text, from_place(rest, place)),
+        None => false,
+    }
+}
+
+/// Whether a replay would play such a line: behind a timestamp of one word or two it begins so.
+pub(crate) fn is_playable(text: &[u8], line: Range) -> bool {
+    let second = behind_word(text, stripped(text, line));
+    is_own_word(first_word(text, second).of(text))
+        || is_own_word(first_word(text, behind_word(text, second)).of(text))
 }
 
 /// What a line says behind a date and a time.
@@ -167,7 +194,7 @@ fn sign_of(text: &[u8], line: Range) -> Sign {
 
 /// Which program wrote a log, and the line that says so; none where a replay takes it as it stands, or it isn't known.
 pub(crate) fn format_of(text: &[u8]) -> Option<(Format, Range)> {
-    let mut line = line_from(text, 0);
+    let mut line = line_at(text, 0);
     for _ in 0..text.len().saturating_add(1) {
         match sign_of(text, line) {
             Sign::Nothing => {}

@@ -1,10 +1,11 @@
 //! What systemd writes of its services into the journal, as `journalctl -o short-iso` and `-o json` print it.
 
-use crate::moment::{Moment, Zone, read_moment};
-use crate::reason::{write_error, write_signal, write_status};
-use crate::seeking::{from_place, is_at, is_text, place_behind, place_of_bytes, up_to};
-use crate::work::{Called, Event, Work};
+use crate::keys::text_of;
 use otp_foreign::{Range, number_in};
+use otp_logged::{
+    Called, Event, Moment, Work, Zone, from_place, is_at, is_text, place_behind, place_of_bytes,
+    read_moment, up_to, write_error, write_signal, write_status,
+};
 use std::alloc::AllocError;
 
 /// A service's name ends so.
@@ -145,12 +146,20 @@ impl Journal {
         let called = Called::alone(up_to(message, end));
         let words = from_place(message, end.saturating_add(10));
         if is_at(text, words.start, b"Main process exited") {
-            take_exit(work, moment, called, words)
-        } else if is_at(text, words.start, b"Deactivated successfully") {
-            self.end_well(work, moment, called)
-        } else {
-            Ok(())
+            // Where the service is being stopped this is what was asked of it.
+            return if self.is_stopping(text, called.name) {
+                Ok(())
+            } else {
+                take_exit(work, moment, called, words)
+            };
         }
+        if is_at(text, words.start, b"Deactivated successfully") {
+            return self.end_well(work, moment, called);
+        }
+        if is_at(text, words.start, b"Failed with result") {
+            self.was_stopping(text, called.name);
+        }
+        Ok(())
     }
 
     /// The next line, as `short-iso` has it.
@@ -175,13 +184,17 @@ impl Journal {
         line: Range,
     ) -> Result<(), AllocError> {
         let text = work.text;
-        if place_of_bytes(text, line, b"\"SYSLOG_IDENTIFIER\":\"systemd\"").is_none() {
+        let is_own = match text_of(text, line, b"\"SYSLOG_IDENTIFIER\"") {
+            Some(name) => is_text(name.of(text), b"systemd"),
+            None => false,
+        };
+        if !is_own {
             return Ok(());
         }
-        let Some(message) = text_of(text, line, b"\"MESSAGE\":\"") else {
+        let Some(message) = text_of(text, line, b"\"MESSAGE\"") else {
             return Ok(());
         };
-        let Some(time) = text_of(text, line, b"\"__REALTIME_TIMESTAMP\":\"") else {
+        let Some(time) = text_of(text, line, b"\"__REALTIME_TIMESTAMP\"") else {
             return Ok(());
         };
         match number_in(time.of(text)) {
@@ -192,11 +205,4 @@ impl Journal {
             None => Ok(()),
         }
     }
-}
-
-/// The text of a key of an object, behind which it stands: all up to the next quote.
-pub(crate) fn text_of(text: &[u8], line: Range, key: &[u8]) -> Option<Range> {
-    let place = place_behind(text, line, key)?;
-    let rest = from_place(line, place);
-    Some(up_to(rest, place_of_bytes(text, rest, b"\"")?))
 }

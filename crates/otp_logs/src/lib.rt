@@ -8,17 +8,12 @@
 mod daemon;
 mod elixir;
 mod format;
-mod ids;
 mod journal;
-mod known;
-mod lines;
-mod moment;
+mod keys;
+mod objects;
 mod otp;
-mod reason;
-mod seeking;
 mod supervisord;
 mod translating;
-mod work;
 
 pub use format::Format;
 pub use translating::{LogWords, Translation, translate_log};

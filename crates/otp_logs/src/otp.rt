@@ -1,10 +1,10 @@
 //! Reports of supervisors as OTP's logger writes them, on several lines or on one.
 
-use crate::moment::{Moment, read_moment, read_report_moment};
-use crate::reason::{write_error, write_term};
-use crate::seeking::{from_place, is_at, is_text, place_behind, place_of_bytes, stripped, up_to};
-use crate::work::{Called, Event, Work};
 use otp_foreign::{Range, byte_of, trimmed};
+use otp_logged::{
+    Called, Event, Moment, Work, from_place, is_at, is_text, place_behind, place_of_bytes,
+    read_moment, read_report_moment, stripped, up_to, write_error, write_term,
+};
 use std::alloc::AllocError;
 
 /// What a report is about.
@@ -45,7 +45,7 @@ impl Report {
     };
 
     /// A report begins.
-    fn begun(moment: Moment) -> Report {
+    pub(crate) fn begun(moment: Moment) -> Report {
         Report {
             moment: Some(moment),
             ..Report::NONE
@@ -178,7 +178,11 @@ fn take_report(
 }
 
 /// A line of a report that goes on.
-fn take_inner(work: &mut Work<'_>, report: Report, line: Range) -> Result<Report, AllocError> {
+pub(crate) fn take_inner(
+    work: &mut Work<'_>,
+    report: Report,
+    line: Range,
+) -> Result<Report, AllocError> {
     let Some(moment) = report.moment else {
         return Ok(report);
     };
@@ -212,7 +216,11 @@ fn part_of(text: &[u8], line: Range, front: &[u8], back: &[u8]) -> Option<Range>
 }
 
 /// A report on one line, from its first word on.
-fn take_single(work: &mut Work<'_>, moment: Moment, line: Range) -> Result<(), AllocError> {
+pub(crate) fn take_single(
+    work: &mut Work<'_>,
+    moment: Moment,
+    line: Range,
+) -> Result<(), AllocError> {
     let text = work.text;
     let Some(supervisor) = part_of(text, line, b"upervisor: ", b". ") else {
         return Ok(());

@@ -1,10 +1,10 @@
 //! The log of supervisord.
 
-use crate::moment::{Moment, read_moment};
-use crate::reason::{write_error, write_signal, write_status};
-use crate::seeking::{behind_word, first_word, from_place, is_at, place_of_bytes, up_to};
-use crate::work::{Called, Event, Work};
 use otp_foreign::{Range, byte_of};
+use otp_logged::{
+    Called, Event, Moment, Work, behind_word, first_word, from_place, is_at, place_of_bytes,
+    read_moment, up_to, write_error, write_signal, write_status,
+};
 use std::alloc::AllocError;
 
 /// Appends the reason that such words say: `exit status 1`, or `terminated by SIGKILL`.
@@ -59,4 +59,13 @@ pub(crate) fn take_line(work: &mut Work<'_>, line: Range) -> Result<(), AllocErr
         Some((moment, _)) => take_words(work, moment, words),
         None => Ok(()),
     }
+}
+
+/// Whether a line says that supervisord begins.
+pub(crate) fn is_beginning(text: &[u8], line: Range) -> bool {
+    is_at(
+        text,
+        line.start.saturating_add(23),
+        b" INFO supervisord started with pid ",
+    )
 }

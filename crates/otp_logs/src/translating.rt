@@ -2,17 +2,13 @@
 
 ghost use Rattle.std.specs.Prelude.{◌≡◌, ◌==◌, count_by, IfOk, IfSome};
 
-use crate::daemon::{Daemon, is_beginning};
-use crate::format::{Format, format_of};
-use crate::ids::Ids;
+use crate::daemon::{self, Daemon};
+use crate::format::{Format, format_of, is_playable};
 use crate::journal::Journal;
-use crate::known::Known;
-use crate::lines::{count_ends, line_behind, line_from};
-use crate::seeking::place_of_bytes;
-use crate::work::Work;
-use crate::{elixir, otp, supervisord};
+use crate::{elixir, objects, otp, supervisord};
 use otp_file::TreeSpec;
-use otp_foreign::{Range, write_byte};
+use otp_foreign::{Range, line_at, write_byte};
+use otp_logged::{Ids, Known, Work, line_behind, place_of_bytes};
 use std::alloc::{AllocError, Global};
 
 /// How a log is read.
@@ -42,6 +38,8 @@ pub struct Translation {
 #[derive(Drop)]
 struct Reader {
     format: Format,
+    /// It has reports of Elixir's supervisors: what processes say themselves would be told twice.
+    has_reports: bool,
     report: otp::Report,
     elixir: elixir::Reading,
     journal: Journal,
@@ -51,12 +49,13 @@ struct Reader {
 impl Reader {
     /// Nothing was read yet.
     fn new(alloc: Global, format: Format, text: &[u8]) -> Self {
-        let has_reports = matches!(format, Format::Elixir)
+        let has_reports = matches!(format, Format::Elixir | Format::Objects)
             && place_of_bytes(text, all_of(text), b" of Supervisor ").is_some();
         Reader {
             format,
+            has_reports,
             report: otp::Report::NONE,
-            elixir: elixir::Reading::new(has_reports),
+            elixir: elixir::Reading::NONE,
             journal: Journal::new(alloc),
             daemon: Daemon::new(alloc),
         }
@@ -70,16 +69,24 @@ impl Reader {
                 Ok(())
             }
             Format::Elixir => {
-                self.elixir = elixir::take_line(work, self.elixir, line)?;
+                self.elixir = elixir::take_line(work, self.elixir, self.has_reports, line)?;
                 Ok(())
             }
             Format::Supervisord => supervisord::take_line(work, line),
             Format::Journal => self.journal.take_line(work, line),
             Format::JournalObjects => self.journal.take_object(work, line),
+            Format::Objects => objects::take_object(work, self.has_reports, line),
             Format::Daemon => self.daemon.take_line(work, line),
             Format::DaemonObjects => self.daemon.take_object(work, line),
         }
     }
+}
+
+/// How many line ends a text has.
+fn count_ends(text: &[u8]) -> usize
+    ensures { result ≡ count_by (λ byte. byte == 10) text.now }
+{
+    text.iter().filter(|byte| **byte == b'\n').count()
 }
 
 /// All of a text.
@@ -90,15 +97,21 @@ fn all_of(text: &[u8]) -> Range {
     }
 }
 
-/// The place at which the last run begins, in a log that may have several.
+/// Whether a run of the program begins with a line, in a log that may have several.
+fn is_beginning(format: Format, text: &[u8], line: Range) -> bool {
+    match format {
+        Format::Supervisord => supervisord::is_beginning(text, line),
+        Format::Daemon | Format::DaemonObjects => daemon::is_beginning(text, line),
+        _ => false,
+    }
+}
+
+/// The place at which the last run begins.
 fn begin_of(format: Format, text: &[u8]) -> usize {
     let mut begin: usize = 0;
-    if !matches!(format, Format::Daemon | Format::DaemonObjects) {
-        return begin;
-    }
-    let mut line = line_from(text, 0);
+    let mut line = line_at(text, 0);
     for _ in 0..text.len().saturating_add(1) {
-        if is_beginning(text, line) {
+        if is_beginning(format, text, line) {
             begin = line.start;
         }
         match line_behind(text, line) {
@@ -107,6 +120,14 @@ fn begin_of(format: Format, text: &[u8]) -> usize {
         }
     }
     begin
+}
+
+/// Writes a line as it stands. A mark comes before one that would be played, since it is none of those that say what happened.
+fn keep_line(work: &mut Work<'_>, line: Range) -> Result<(), AllocError> {
+    if is_playable(work.text, line) {
+        work.lines.extend_from_slice(b"- ")?;
+    }
+    work.lines.extend_from_slice(line.of(work.text))
 }
 
 /// Writes what stands for a line.
@@ -122,7 +143,7 @@ fn put_line(
         reader.take(work, line)?;
     }
     if keeps_others && !work.is_put {
-        work.lines.extend_from_slice(line.of(work.text))?;
+        keep_line(work, line)?;
     }
     work.number = work.number.saturating_add(1);
     Ok(())
@@ -132,11 +153,11 @@ fn put_line(
 fn put_lines(
     reader: &mut Reader,
     work: &mut Work<'_>,
+    begin: usize,
     keeps_others: bool,
 ) -> Result<(), AllocError> {
     let text = work.text;
-    let begin = begin_of(reader.format, text);
-    let mut line = line_from(text, 0);
+    let mut line = line_at(text, 0);
     for _ in 0..text.len().saturating_add(1) {
         put_line(reader, work, line, line.start >= begin, keeps_others)?;
         match line_behind(text, line) {
@@ -154,8 +175,10 @@ fn read_all(
     work: &mut Work<'_>,
     keeps_others: bool,
 ) -> Result<(), AllocError> {
-    put_lines(reader, work, keeps_others)?;
-    work.note(reader.format.text())
+    let begin = begin_of(reader.format, work.text);
+    put_lines(reader, work, begin, keeps_others)?;
+    let front = if begin > 0 { "the last run in " } else { "" };
+    work.note(front, reader.format.text())
 }
 
 /// Reads a log of this format.

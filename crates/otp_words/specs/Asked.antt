@@ -91,6 +91,15 @@ AreTrialShowsOf rows shows =
     IsFlagOf rows (codes "timeline") shows.is_drawn × (IsFlagOf rows (codes "quiet") shows.is_quiet
     × (IsClockOf rows shows.clock × IsNumberOf rows (codes "width") shows.width))
 
+-- the name is that of standard input
+abbrev pub is_input : Text → Bool
+is_input name = bytes_eq name (codes "-")
+
+-- a file of this name is read, if one is named, and it is standard input
+abbrev pub is_input_named : Option (Bor Text) → Bool
+is_input_named None = false
+is_input_named (Some name) = is_input name.now
+
 -- how a log of another program is read: by which file of ids, and whether each child has to be known
 abbrev pub IsReadingOf : List Row → LogReading → Type 0
 IsReadingOf rows reading =
@@ -125,7 +134,8 @@ AsksUse name rows (usage.Suggest child every) =
 AsksUse name rows (usage.Compare other) = (name ≡ codes "diff") × (first_of (codes "OTHER") rows ≡ Some other.now)
 AsksUse name rows (usage.Replay log reading is_listed shows) =
     (name ≡ codes "replay") × ((first_of (codes "LOG") rows ≡ Some log.now) × (IsReadingOf rows reading
-    × (IsFlagOf rows (codes "unmatched") is_listed × AreTrialShowsOf rows shows)))
+    × (((is_input log.now && is_input_named reading.ids) ≡ false)
+    × (IsFlagOf rows (codes "unmatched") is_listed × AreTrialShowsOf rows shows))))
 AsksUse name rows (usage.Import of_commands) = (name ≡ codes "import") × IsFlagOf rows (codes "commands") of_commands
 
 -- how a tree is run
@@ -144,15 +154,6 @@ abbrev pub AreTimesOf : List Row → Serving → Type 0
 AreTimesOf rows serving =
     (time_given (first_of (codes "for") rows) ≡ Some (Some serving.time)) × ((time_given (first_of (codes "grace") rows) ≡ Some serving.grace)
     × IsFlagOf rows (codes "log") serving.is_logged)
-
--- the name is that of standard input
-abbrev pub is_input : Text → Bool
-is_input name = bytes_eq name (codes "-")
-
--- a file of this name is read, if one is named, and it is standard input
-abbrev pub is_input_named : Option (Bor Text) → Bool
-is_input_named None = false
-is_input_named (Some name) = is_input name.now
 
 -- whether standard input is read beside the tree file: by `try` where it has the script, or where another file is named so
 unfoldable pub wants_input : Usage → Bool

@@ -4,9 +4,9 @@
 //! supervisor with a `/` and a child behind it; with the `/` alone all its children are meant, and the path is that of the supervisor,
 //! `/` for the root. The path `-` leaves out what is called so. A line that begins with `#` says nothing.
 
-use crate::lines::{line_behind, line_from};
+use crate::lines::line_behind;
 use crate::seeking::{from_place, is_text};
-use otp_foreign::{Range, byte_of, is_blank, trimmed};
+use otp_foreign::{Range, byte_of, is_blank, line_at, trimmed};
 use std::alloc::{AllocError, Global};
 
 /// A line of the file.
@@ -18,7 +18,7 @@ struct Named {
 
 /// The file.
 #[derive(Drop)]
-pub(crate) struct Ids<'a> {
+pub struct Ids<'a> {
     text: &'a [u8],
     named: Vec<Named>,
 }
@@ -68,7 +68,7 @@ fn read_named(text: &[u8], line: Range) -> Option<Named> {
 
 impl<'a> Ids<'a> {
     /// Reads such a file.
-    pub(crate) fn read(alloc: Global, text: &'a [u8]) -> Result<Self, AllocError> {
+    pub fn read(alloc: Global, text: &'a [u8]) -> Result<Self, AllocError> {
         let mut ids = Ids {
             text,
             named: Vec::new(alloc),
@@ -85,7 +85,7 @@ impl<'a> Ids<'a> {
     /// Takes what each line says.
     fn take_lines(&mut self) -> Result<(), AllocError> {
         let text = self.text;
-        let mut line = line_from(text, 0);
+        let mut line = line_at(text, 0);
         for _ in 0..text.len().saturating_add(1) {
             if let Some(named) = read_named(text, line) {
                 self.named.push(named).map_err(|_| AllocError)?;

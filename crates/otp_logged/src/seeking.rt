@@ -6,7 +6,7 @@ ghost use Rattle.std.specs.Str.{bytes_eq};
 use otp_foreign::{Range, byte_of, is_blank};
 
 /// Whether these bytes stand at a place of a text.
-pub(crate) fn is_at(text: &[u8], place: usize, bytes: &[u8]) -> bool {
+pub fn is_at(text: &[u8], place: usize, bytes: &[u8]) -> bool {
     match text.get(place..) {
         Some(rest) => rest.starts_with(bytes),
         None => false,
@@ -14,7 +14,7 @@ pub(crate) fn is_at(text: &[u8], place: usize, bytes: &[u8]) -> bool {
 }
 
 /// The place of these bytes in a part of a text, if they begin in it.
-pub(crate) fn place_of_bytes(text: &[u8], range: Range, bytes: &[u8]) -> Option<usize> {
+pub fn place_of_bytes(text: &[u8], range: Range, bytes: &[u8]) -> Option<usize> {
     let first = byte_of(bytes, 0);
     for place in range.start..range.end {
         if byte_of(text, place) == first && is_at(text, place, bytes) {
@@ -25,7 +25,7 @@ pub(crate) fn place_of_bytes(text: &[u8], range: Range, bytes: &[u8]) -> Option<
 }
 
 /// The place behind these bytes in a part of a text, if they begin in it.
-pub(crate) fn place_behind(text: &[u8], range: Range, bytes: &[u8]) -> Option<usize> {
+pub fn place_behind(text: &[u8], range: Range, bytes: &[u8]) -> Option<usize> {
     match place_of_bytes(text, range, bytes) {
         Some(place) => Some(place.saturating_add(bytes.len())),
         None => None,
@@ -33,7 +33,7 @@ pub(crate) fn place_behind(text: &[u8], range: Range, bytes: &[u8]) -> Option<us
 }
 
 /// A part from a place on.
-pub(crate) fn from_place(range: Range, place: usize) -> Range {
+pub fn from_place(range: Range, place: usize) -> Range {
     Range {
         start: place,
         end: range.end.max(place),
@@ -41,7 +41,7 @@ pub(crate) fn from_place(range: Range, place: usize) -> Range {
 }
 
 /// A part up to a place.
-pub(crate) fn up_to(range: Range, place: usize) -> Range {
+pub fn up_to(range: Range, place: usize) -> Range {
     Range {
         start: range.start,
         end: place.max(range.start),
@@ -49,7 +49,7 @@ pub(crate) fn up_to(range: Range, place: usize) -> Range {
 }
 
 /// A part without the blanks before it.
-pub(crate) fn stripped(text: &[u8], range: Range) -> Range {
+pub fn stripped(text: &[u8], range: Range) -> Range {
     for place in range.start..range.end {
         if !is_blank(byte_of(text, place)) {
             return from_place(range, place);
@@ -59,7 +59,7 @@ pub(crate) fn stripped(text: &[u8], range: Range) -> Range {
 }
 
 /// The word at the beginning of a part: what stands before the first blank.
-pub(crate) fn first_word(text: &[u8], range: Range) -> Range {
+pub fn first_word(text: &[u8], range: Range) -> Range {
     for place in range.start..range.end {
         if is_blank(byte_of(text, place)) {
             return up_to(range, place);
@@ -69,13 +69,13 @@ pub(crate) fn first_word(text: &[u8], range: Range) -> Range {
 }
 
 /// What stands behind the word at the beginning of a part, without the blanks between them.
-pub(crate) fn behind_word(text: &[u8], range: Range) -> Range {
+pub fn behind_word(text: &[u8], range: Range) -> Range {
     let word = first_word(text, range);
     stripped(text, from_place(range, word.end))
 }
 
 /// Whether two texts are the same.
-pub(crate) fn is_text(one: &[u8], other: &[u8]) -> bool
+pub fn is_text(one: &[u8], other: &[u8]) -> bool
     ensures { result ≡ bytes_eq one.now other.now }
 {
     one == other

@@ -21,7 +21,7 @@ pub(crate) struct Child {
 
 /// All children of a tree.
 #[derive(Drop)]
-pub(crate) struct Known {
+pub struct Known {
     names: Vec<u8>,
     children: Vec<Child>,
 }
@@ -50,7 +50,7 @@ const NOTHING: Range = Range { start: 0, end: 0 };
 
 impl Known {
     /// The children of a tree.
-    pub(crate) fn of(alloc: Global, tree: &TreeSpec) -> Result<Known, AllocError> {
+    pub fn of(alloc: Global, tree: &TreeSpec) -> Result<Known, AllocError> {
         let mut known = Known {
             names: Vec::new(alloc),
             children: Vec::new(alloc),

@@ -12,7 +12,7 @@ const DAYS_BEFORE: u64 = 719_468;
 
 /// By which clock a time was read.
 #[derive(Clone, Copy)]
-pub(crate) enum Zone {
+pub enum Zone {
     /// By one of which nothing is said.
     Local,
     Utc,
@@ -24,7 +24,7 @@ pub(crate) enum Zone {
 
 /// A date, and a time of the day.
 #[derive(Clone, Copy)]
-pub(crate) struct Moment {
+pub struct Moment {
     pub year: u64,
     pub month: u64,
     pub day: u64,
@@ -59,7 +59,7 @@ impl Moment {
     }
 
     /// Milliseconds since 1970, by UTC where the clock is known.
-    pub(crate) fn millis(&self) -> u64 {
+    pub fn millis(&self) -> u64 {
         let millis = self.days().saturating_mul(DAY).saturating_add(self.clock);
         match self.zone {
             Zone::Local | Zone::Utc => millis,
@@ -69,7 +69,7 @@ impl Moment {
     }
 
     /// The moment so many milliseconds after 1970 began.
-    pub(crate) fn at(millis: u64, zone: Zone) -> Moment {
+    pub fn at(millis: u64, zone: Zone) -> Moment {
         let days = (millis / DAY).saturating_add(DAYS_BEFORE);
         let era = days / 146_097;
         let of_era = days % 146_097;
@@ -105,7 +105,7 @@ impl Moment {
     }
 
     /// Appends it as an instant: what says no clock is taken to be of UTC by a replay.
-    pub(crate) fn write(&self, out: &mut Vec<u8>) -> Result<(), AllocError> {
+    pub fn write(&self, out: &mut Vec<u8>) -> Result<(), AllocError> {
         write_two(self.year / 100, out)?;
         write_two(self.year, out)?;
         write_byte(b'-', out)?;
@@ -194,7 +194,7 @@ fn thousandths(text: &[u8], place: usize, worth: u64) -> u64 {
 }
 
 /// The milliseconds of a day of a time as `20:49:00.125` at a place, also with a comma or without a fraction; and the place behind it.
-pub(crate) fn read_clock(text: &[u8], place: usize) -> Option<(u64, usize)> {
+pub fn read_clock(text: &[u8], place: usize) -> Option<(u64, usize)> {
     let hours = number_up_to(text, place, 2, 23)?;
     let minutes = number_up_to(text, place.saturating_add(3), 2, 59)?;
     let seconds = number_up_to(text, place.saturating_add(6), 2, 59)?;
@@ -273,7 +273,7 @@ fn read_date(text: &[u8], place: usize) -> Option<Moment> {
 }
 
 /// A date and a time of the day as `2026-11-26T20:49:00.125Z` at a place, also with a space for the T; and the place behind them.
-pub(crate) fn read_moment(text: &[u8], place: usize) -> Option<(Moment, usize)> {
+pub fn read_moment(text: &[u8], place: usize) -> Option<(Moment, usize)> {
     let date = read_date(text, place)?;
     let between = place.saturating_add(10);
     if !matches!(byte_of(text, between), b'T' | b' ') {
@@ -309,7 +309,7 @@ fn month_of(letters: &[u8]) -> Option<u64> {
 }
 
 /// A date and a time of the day as `26-Nov-2026::20:49:00.125000` at a place. The day has one digit or two.
-pub(crate) fn read_report_moment(text: &[u8], place: usize) -> Option<Moment> {
+pub fn read_report_moment(text: &[u8], place: usize) -> Option<Moment> {
     let line = behind_digits(text, place);
     let day = number_up_to(text, place, line.saturating_sub(place), 31)?;
     let letters = line.saturating_add(1);

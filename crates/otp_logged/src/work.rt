@@ -16,7 +16,7 @@ const MOST_REMARKS: u64 = 20;
 
 /// What a log says of a child.
 #[derive(Clone, Copy)]
-pub(crate) enum Event {
+pub enum Event {
     /// It has ended, or its start has failed.
     End,
     /// It is up.
@@ -31,7 +31,7 @@ impl Event {
 
 /// A child as a log calls it.
 #[derive(Clone, Copy)]
-pub(crate) struct Called {
+pub struct Called {
     /// Where its supervisor's name stands; nowhere if that isn't said.
     pub supervisor: Range,
     /// Where its own stands.
@@ -40,7 +40,7 @@ pub(crate) struct Called {
 
 impl Called {
     /// A child whose supervisor isn't said.
-    pub(crate) fn alone(name: Range) -> Called {
+    pub fn alone(name: Range) -> Called {
         Called {
             supervisor: Range { start: 0, end: 0 },
             name,
@@ -63,7 +63,7 @@ pub(crate) struct Counted {
 
 /// A log, and what was written for it.
 #[derive(Drop)]
-pub(crate) struct Work<'a> {
+pub struct Work<'a> {
     /// What the log is called, before each remark.
     name: &'a str,
     pub text: &'a [u8],
@@ -92,7 +92,7 @@ pub(crate) struct Work<'a> {
 
 impl<'a> Work<'a> {
     /// Nothing was written yet.
-    pub(crate) fn new(
+    pub fn new(
         alloc: Global,
         name: &'a str,
         text: &'a [u8],
@@ -127,14 +127,14 @@ impl<'a> Work<'a> {
     }
 
     /// The lines and the notes.
-    pub(crate) fn into_parts(self) -> (Vec<u8>, Vec<u8>) {
+    pub fn into_parts(self) -> (Vec<u8>, Vec<u8>) {
         let Work { lines, notes, .. } = self;
         (lines, notes)
     }
 
     /// Writes which format the log has, what was counted, and the remarks.
-    pub(crate) fn note(&mut self, format: &str) -> Result<(), AllocError> {
-        write_head(self.name, format, &mut self.notes)?;
+    pub fn note(&mut self, front: &str, format: &str) -> Result<(), AllocError> {
+        write_head(self.name, front, format, &mut self.notes)?;
         write_counts(self.counted, &mut self.notes)?;
         self.notes.extend_from_slice(b"\n")?;
         self.notes.extend_from_slice(self.remarks.as_slice())
@@ -191,12 +191,7 @@ impl<'a> Work<'a> {
     }
 
     /// Something happened to a child. Of an end the reason stands in its place.
-    pub(crate) fn take(
-        &mut self,
-        event: Event,
-        moment: Moment,
-        called: Called,
-    ) -> Result<(), AllocError> {
+    pub fn take(&mut self, event: Event, moment: Moment, called: Called) -> Result<(), AllocError> {
         if self.is_stopped {
             self.counted.after = self.counted.after.saturating_add(1);
             return Ok(());
@@ -287,7 +282,7 @@ impl<'a> Work<'a> {
     }
 
     /// The whole was asked to stop.
-    pub(crate) fn stop(&mut self, moment: Moment) -> Result<(), AllocError> {
+    pub fn stop(&mut self, moment: Moment) -> Result<(), AllocError> {
         if self.is_stopped {
             return Ok(());
         }
@@ -302,9 +297,10 @@ impl<'a> Work<'a> {
 }
 
 /// Appends what a log is called, and its format.
-fn write_head(name: &str, format: &str, out: &mut Vec<u8>) -> Result<(), AllocError> {
+fn write_head(name: &str, front: &str, format: &str, out: &mut Vec<u8>) -> Result<(), AllocError> {
     out.extend_from_slice(name.as_bytes())?;
     out.extend_from_slice(b": ")?;
+    out.extend_from_slice(front.as_bytes())?;
     out.extend_from_slice(format.as_bytes())?;
     out.extend_from_slice(b": ")
 }

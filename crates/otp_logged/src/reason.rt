@@ -39,7 +39,7 @@ fn write_plain(text: &[u8], out: &mut Vec<u8>) -> Result<(), AllocError> {
 }
 
 /// Appends an error of which this is told.
-pub(crate) fn write_error(front: &[u8], text: &[u8], out: &mut Vec<u8>) -> Result<(), AllocError> {
+pub fn write_error(front: &[u8], text: &[u8], out: &mut Vec<u8>) -> Result<(), AllocError> {
     out.extend_from_slice(b"error:")?;
     out.extend_from_slice(front)?;
     write_plain(text, out)
@@ -74,7 +74,7 @@ fn text_of_shutdown(text: &[u8], range: Range) -> Option<Range> {
 }
 
 /// Appends the reason that a term says.
-pub(crate) fn write_term(text: &[u8], range: Range, out: &mut Vec<u8>) -> Result<(), AllocError> {
+pub fn write_term(text: &[u8], range: Range, out: &mut Vec<u8>) -> Result<(), AllocError> {
     let term = trimmed(text, range);
     let word = without_colon(term.of(text));
     if is_word(word) {
@@ -90,7 +90,7 @@ pub(crate) fn write_term(text: &[u8], range: Range, out: &mut Vec<u8>) -> Result
 }
 
 /// Appends the reason of a process that ended with this status.
-pub(crate) fn write_status(status: &[u8], out: &mut Vec<u8>) -> Result<(), AllocError> {
+pub fn write_status(status: &[u8], out: &mut Vec<u8>) -> Result<(), AllocError> {
     if is_text(status, b"0") {
         out.extend_from_slice(b"normal")
     } else {
@@ -99,7 +99,7 @@ pub(crate) fn write_status(status: &[u8], out: &mut Vec<u8>) -> Result<(), Alloc
 }
 
 /// Appends the reason of a process that this signal ended, whose name has no SIG before it.
-pub(crate) fn write_signal(signal: &[u8], out: &mut Vec<u8>) -> Result<(), AllocError> {
+pub fn write_signal(signal: &[u8], out: &mut Vec<u8>) -> Result<(), AllocError> {
     if is_text(signal, b"KILL") {
         out.extend_from_slice(b"killed")
     } else {
