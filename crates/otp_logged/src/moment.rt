@@ -252,6 +252,26 @@ fn read_zone(text: &[u8], place: usize) -> (Zone, usize) {
     (zone, second.saturating_add(2))
 }
 
+/// The midnight with which a date begins, if there is such a date.
+fn date_of(year: u64, month: u64, day: u64) -> Option<Moment> {
+    if year < 1970 || month == 0 || month > 12 || day == 0 {
+        return None;
+    }
+    let date = Moment {
+        year,
+        month,
+        day,
+        clock: 0,
+        zone: Zone::Local,
+    };
+    // A day that the month lacks would be one of the next.
+    if Moment::at(date.millis(), Zone::Local).month == month {
+        Some(date)
+    } else {
+        None
+    }
+}
+
 /// A date as `2026-11-26` at a place, which begins there at midnight.
 fn read_date(text: &[u8], place: usize) -> Option<Moment> {
     let year = number_at(text, place, 4)?;
@@ -259,14 +279,8 @@ fn read_date(text: &[u8], place: usize) -> Option<Moment> {
     let day = number_up_to(text, place.saturating_add(8), 2, 31)?;
     let has_lines = is_at(text, place.saturating_add(4), b"-")
         && is_at(text, place.saturating_add(7), b"-");
-    if has_lines && year >= 1970 && month > 0 && day > 0 {
-        Some(Moment {
-            year,
-            month,
-            day,
-            clock: 0,
-            zone: Zone::Local,
-        })
+    if has_lines {
+        date_of(year, month, day)
     } else {
         None
     }
@@ -316,15 +330,12 @@ pub fn read_report_moment(text: &[u8], place: usize) -> Option<Moment> {
     let behind = letters.saturating_add(3);
     let month = month_of(text.get(letters..behind).unwrap_or(b""))?;
     let year = number_at(text, behind.saturating_add(1), 4)?;
-    if !is_at(text, behind.saturating_add(5), b"::") || year < 1970 || day == 0 {
+    if !is_at(text, behind.saturating_add(5), b"::") {
         return None;
     }
     let (clock, _) = read_clock(text, behind.saturating_add(7))?;
     Some(Moment {
-        year,
-        month,
-        day,
         clock,
-        zone: Zone::Local,
+        ..date_of(year, month, day)?
     })
 }

@@ -205,7 +205,14 @@ impl<'a> Work<'a> {
             // What came up and isn't of the tree has nothing to do with it.
             Some(_) if event.is_up() => Ok(()),
             Some(meant) if self.is_strict => self.put_unknown(moment, called, meant),
-            Some(Meant::Unknown) => self.remark("no child of the tree is called ", called.name, ""),
+            Some(Meant::Unknown) if self.path.is_empty() => {
+                self.remark("no child of the tree is called ", called.name, "")
+            }
+            Some(Meant::Unknown) => self.remark(
+                "no child of the tree has the path that the file for --ids says: ",
+                called.name,
+                "",
+            ),
             Some(Meant::Several) => self.remark(
                 "more than one child of the tree is called ",
                 called.name,

@@ -70,9 +70,19 @@ fn is_elixirs(text: &[u8], message: Range) -> bool {
         && place_of_bytes(text, message, b" terminating").is_some()
 }
 
+/// Whether a supervisor of OTP says so of a child, on one line or several.
+fn is_of_otp(text: &[u8], rest: Range) -> bool {
+    let Some(place) = place_behind(text, rest, b"upervisor: ") else {
+        return false;
+    };
+    let words = from_place(rest, place);
+    place_of_bytes(text, words, b"ontext: ").is_some()
+        || place_of_bytes(text, words, b"tarted: ").is_some()
+}
+
 /// Whether Erlang or Elixir says so of a child in a message.
 fn is_of_loggers(text: &[u8], message: Range) -> bool {
-    is_elixirs(text, message) || place_of_bytes(text, message, b"upervisor: ").is_some()
+    is_elixirs(text, message) || is_of_otp(text, message)
 }
 
 /// What a line says that is an object of JSON.
@@ -100,6 +110,17 @@ fn is_level(text: &[u8], place: usize) -> bool {
         || is_at(text, place, b" ERRO ")
         || is_at(text, place, b" TRAC ")
         || is_at(text, place, b" BLAT ")
+}
+
+/// Whether supervisord says so, behind its level.
+fn is_of_supervisord(text: &[u8], words: Range) -> bool {
+    is_at(text, words.start, b"spawned: \'")
+        || is_at(text, words.start, b"exited: ")
+        || is_at(text, words.start, b"success: ")
+        || is_at(text, words.start, b"stopped: ")
+        || is_at(text, words.start, b"gave up: ")
+        || is_at(text, words.start, b"received SIG")
+        || is_at(text, words.start, b"supervisord started with pid ")
 }
 
 /// Whether a word is seconds with milliseconds, as `3.211`.
@@ -146,7 +167,7 @@ fn sign_behind(text: &[u8], rest: Range) -> Sign {
     if is_own_word(first_word(text, words).of(text)) {
         return Sign::Own;
     }
-    if is_level(text, rest.start) {
+    if is_level(text, rest.start) && is_of_supervisord(text, behind_word(text, words)) {
         return Sign::Of(Format::Supervisord);
     }
     if is_of_daemon(text, words) {
@@ -155,7 +176,7 @@ fn sign_behind(text: &[u8], rest: Range) -> Sign {
     if place_of_bytes(text, rest, b" systemd[").is_some() {
         return Sign::Of(Format::Journal);
     }
-    if place_of_bytes(text, rest, b"upervisor: ").is_some() {
+    if is_of_otp(text, rest) {
         return Sign::Of(Format::Otp);
     }
     if is_of_elixir(text, rest) {

@@ -11,6 +11,9 @@ use std::alloc::AllocError;
 /// A service's name ends so.
 const SERVICE: &[u8] = b".service";
 
+/// Microseconds from 1970 to the year 10000, whose dates have a digit more.
+const END: u64 = 253_402_300_800_000_000;
+
 /// Appends the reason of a process that ended by this code and status, as `exited`, `1/FAILURE`.
 fn write_reason(
     code: &[u8],
@@ -198,11 +201,11 @@ impl Journal {
             return Ok(());
         };
         match number_in(time.of(text)) {
-            Some(micros) => {
+            Some(micros) if micros < END => {
                 let moment = Moment::at(micros / 1000, Zone::Utc);
                 self.take_message(work, moment, message)
             }
-            None => Ok(()),
+            _ => Ok(()),
         }
     }
 }
