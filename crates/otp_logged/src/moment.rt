@@ -334,8 +334,6 @@ pub fn read_report_moment(text: &[u8], place: usize) -> Option<Moment> {
         return None;
     }
     let (clock, _) = read_clock(text, behind.saturating_add(7))?;
-    Some(Moment {
-        clock,
-        ..date_of(year, month, day)?
-    })
+    let date = date_of(year, month, day)?;
+    Some(Moment { clock, ..date })
 }
