@@ -13,7 +13,7 @@ _otp() {
         diff) options="--help" ;;
         import) options="--commands --help" ;;
         limits) options="--child --table --each --json --html --help" ;;
-        replay) options="--unmatched --timeline --quiet --clock --width --help" ;;
+        replay) options="--unmatched --timeline --quiet --clock --width --ids --strict --help" ;;
         run) options="--schedulers --turns --counts --tree --why --for --grace --log --json --help" ;;
         shutdown) options="--help" ;;
         sim) options="--help" ;;

@@ -26,6 +26,8 @@ complete -c otp -n '__fish_seen_subcommand_from replay' -l timeline -d 'Draws th
 complete -c otp -n '__fish_seen_subcommand_from replay' -l quiet -d 'Tells ends of supervisors, what is not as expected, and the verdict alone'
 complete -c otp -n '__fish_seen_subcommand_from replay' -l clock -x -a 'milliseconds seconds' -d 'By which clock restarts are counted: milliseconds, or seconds, as OTP does'
 complete -c otp -n '__fish_seen_subcommand_from replay' -l width -x -d 'How many columns a picture has, 1 to 1000'
+complete -c otp -n '__fish_seen_subcommand_from replay' -l ids -x -d 'A file with a line NAME PATH for each name that a log has for a child'
+complete -c otp -n '__fish_seen_subcommand_from replay' -l strict -d 'A child that isn\'t in the tree gives status 5'
 complete -c otp -n '__fish_seen_subcommand_from run' -l schedulers -x -d 'How many threads serve, 1 to 8'
 complete -c otp -n '__fish_seen_subcommand_from run' -l turns -x -d 'How many turns each thread takes before the stop, and as many after it: 1 to 10000000'
 complete -c otp -n '__fish_seen_subcommand_from run' -l counts -d 'Says first what each supervisor counts of its children just before the stop'

@@ -1,5 +1,6 @@
 -- What was done with a tree file, by how the program ended (own).
-use Rattle.std.specs.Prelude.{◌≡◌, ◌⊎◌, ℕ, Bool, true, false, List, Option, Some, None}
+use Rattle.std.specs.Prelude.{◌≡◌, ◌⊎◌, ℕ, ◌<◌, ◌==◌, Bool, true, false, List, Option, Some, None, count_by}
+use Rattle.std.specs.Io.KnownBytes.{Appends}
 use Rattle.std.specs.Borrow.{Bor}
 use Rattle.otp_sim.specs.Devices.{Devices, Written}
 use Rattle.otp_questions.specs.Compared.{IsCompared}
@@ -15,7 +16,7 @@ use Rattle.otp_questions.specs.Tried.{IsTrial}
 use Rattle.otp_ending.specs.Devices.{Files, IsUnread}
 use Rattle.otp_ending.specs.Told.{IsSmall}
 use Rattle.otp_ending.specs.declared.ending.ProgramEnd.{ProgramEnd}
-use Rattle.otp_ending.specs.declared.ending.ProgramEnd.TheVariants.{FileNotRead, OutOfMemory}
+use Rattle.otp_ending.specs.declared.ending.ProgramEnd.TheVariants.{FileNotRead, OutOfMemory, OutputFailed}
 use Rattle.otp_words.specs.declared.words.Form.{Form}
 use Rattle.otp_words.specs.declared.words.Form.TheVariants as form
 use Rattle.otp_words.specs.declared.words.Page.{Page}
@@ -38,11 +39,28 @@ IsComparedWith Holds name other ending file old new =
     ((ending ≡ FileNotRead) × (new ≡ old)) ⊎ ((ending ≡ OutOfMemory) × (new ≡ old))
     ⊎ ((other_file : List ℕ) × ((Holds other_file × IsSmall other_file) × IsCompared name other ending file other_file old new))
 
+-- behind what is told of a log of another program the lines were replayed that stand for it; or it couldn't be told
+abbrev pub IsReplayBehind : List ℕ → Bor (List ℕ) → List ℕ → Bool → List ℕ → ProgramEnd → List ℕ → Written → Written → Type 0
+IsReplayBehind notes log lines is_listed name ending file old new =
+    ((ending ≡ OutputFailed) × (old.failures < new.failures))
+    ⊎ ((middle : Written) × (Appends old.bytes middle.bytes notes × IsReplay log lines is_listed name ending file middle new))
+
+-- as many lines stand for these
+abbrev pub StandsFor : List ℕ → List ℕ → Type 0
+StandsFor lines text = count_by (λ byte. byte == 10) lines ≡ count_by (λ byte. byte == 10) text
+
+-- a log was replayed as it stands, or by the lines that stand for its lines; or its file of ids can't be read
+abbrev pub IsReplayOfText : Bor (List ℕ) → List ℕ → Bool → List ℕ → ProgramEnd → List ℕ → Written → Written → Type 0
+IsReplayOfText log text is_listed name ending file old new =
+    ((ending ≡ FileNotRead) × (new ≡ old)) ⊎ ((ending ≡ OutOfMemory) × (new ≡ old))
+    ⊎ IsReplay log text is_listed name ending file old new
+    ⊎ ((lines : List ℕ) × (StandsFor lines text × ((notes : List ℕ) × IsReplayBehind notes log lines is_listed name ending file old new)))
+
 -- the log of this name was replayed, of which the same is known; or it can't be read
 abbrev pub IsReplayOf : (List ℕ → Type 0) → Bor (List ℕ) → Bool → List ℕ → ProgramEnd → List ℕ → Written → Written → Type 0
 IsReplayOf Holds log is_listed name ending file old new =
     ((ending ≡ FileNotRead) × (new ≡ old)) ⊎ ((ending ≡ OutOfMemory) × (new ≡ old))
-    ⊎ ((text : List ℕ) × (Holds text × IsReplay log text is_listed name ending file old new))
+    ⊎ ((text : List ℕ) × (Holds text × IsReplayOfText log text is_listed name ending file old new))
 
 -- a script that is taken whole can't be read, or it was, and this was done
 abbrev pub IsRead : (ProgramEnd → Written → Written → Type 0) → ProgramEnd → Written → Written → Type 0
@@ -90,7 +108,7 @@ IsUsed known name (usage.Draw page) ending file old new = IsDrawnAs known page n
 IsUsed known name (usage.Limit pick grain form) ending file old new = IsLimitedAs known form grain pick name ending file old new
 IsUsed known name (usage.Suggest child every) ending file old new = IsUnread old new × IsSuggested child every name ending file old.output new.output
 IsUsed known name (usage.Compare other) ending file old new = IsUnread old new × IsComparedWith (known.holds other.now) name other.now ending file old.output new.output
-IsUsed known name (usage.Replay log is_listed shows) ending file old new =
+IsUsed known name (usage.Replay log reading is_listed shows) ending file old new =
     IsUnread old new × IsReplayOf (known.holds log.now) log is_listed name ending file old.output new.output
 IsUsed known name (usage.Import of_commands) ending file old new =
     IsUnread old new × IsImported of_commands ending old.output new.output

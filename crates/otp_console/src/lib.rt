@@ -7,6 +7,7 @@ pub mod checking;
 pub mod console;
 mod findings;
 mod importing;
+mod logs;
 mod objects;
 mod pages;
 pub mod program;

@@ -9,17 +9,17 @@ ghost use Rattle.otp_questions.specs.Paged.{IsRunTold};
 ghost use Rattle.otp_questions.specs.Tried.{IsTrial};
 
 use crate::importing::import_file;
+use crate::logs::replay_log;
 use crate::pages::{ask, put_limits, put_run, put_tree};
-use otp_ending::{ProgramEnd, TreeFiles, read_log, read_script, read_tree_file};
+use otp_ending::{ProgramEnd, TreeFiles, read_script, read_tree_file};
 use otp_folds::{Grain, Pick, Progress, Unseen};
 use otp_questions::{
-    Asking, Log, compare_files, draw_file, limit_file, replay_file, stop_file, suggest_file,
-    tell_run, try_file,
+    Asking, compare_files, draw_file, limit_file, stop_file, suggest_file, tell_run, try_file,
 };
 use otp_replay::Replaying;
 use otp_sim::{Counted, Input, Output};
 use otp_try::{Clock, Playing, Shows, Writer};
-use otp_words::{Form, Page, TrialShows, Usage};
+use otp_words::{Form, LogReading, Page, TrialShows, Usage};
 use std::alloc::Global;
 
 /// Uses the tree file of this name.
@@ -89,10 +89,11 @@ fn use_file<'a, F: TreeFiles, R: Input, W: Output, E: Output>(
         Usage::Compare { other } => compare_with(alloc, files, name, file, other, output, errors),
         Usage::Replay {
             log,
+            reading,
             is_listed,
             shows,
-        } => replay_log(
-            alloc, files, name, file, log, is_listed, shows, output, errors,
+        } => replay_shown(
+            alloc, files, name, file, log, reading, is_listed, shows, output, errors,
         ),
         Usage::Import { of_commands } => import_file(
             alloc,
@@ -338,13 +339,14 @@ fn compare_with<'a, F: TreeFiles, W: Output, E: Output>(
     }
 }
 
-/// Plays what the log of this name tells on the tree of a file.
-fn replay_log<'a, F: TreeFiles, W: Output, E: Output>(
+/// Plays what the log of this name tells on the tree of a file, and writes so much of it.
+fn replay_shown<'a, F: TreeFiles, W: Output, E: Output>(
     alloc: Global,
     files: &F,
     name: &'a str,
     file: &[u8],
     log: &'a str,
+    reading: LogReading<'a>,
     is_listed: bool,
     shows: TrialShows,
     output: &mut W,
@@ -355,19 +357,12 @@ fn replay_log<'a, F: TreeFiles, W: Output, E: Output>(
     ensures first { TellsFirst false result (E.seen errors.old) (E.seen errors.new) }
     ensures kept { (E.seen errors.old).failures ≤ (E.seen errors.new).failures }
 {
-    match read_log(files, log, errors) {
-        Ok(text) => {
-            let read = Log {
-                name: log,
-                text: &text,
-            };
-            let replaying = Replaying {
-                shows: shows_of(files, shows),
-                clock: shows.clock,
-                is_listed,
-            };
-            replay_file(alloc, name, file, read, replaying, output)
-        }
-        Err(ending) => ending,
-    }
+    let replaying = Replaying {
+        shows: shows_of(files, shows),
+        clock: shows.clock,
+        is_listed,
+    };
+    replay_log(
+        alloc, files, name, file, log, reading, replaying, output, errors,
+    )
 }

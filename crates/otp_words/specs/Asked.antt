@@ -1,5 +1,5 @@
 -- What the words of the command line ask for, by what `clap`'s definition of a simple command finds in them (own).
-use Rattle.std.specs.Prelude.{◌≡◌, ℕ, ◌≤◌, Bool, ◌&&◌, true, false, List, Option, Some, None, count_by, map, option_map, codes, if◌then◌else◌}
+use Rattle.std.specs.Prelude.{◌≡◌, ℕ, ◌≤◌, Bool, ◌&&◌, ◌||◌, true, false, List, Option, Some, None, count_by, map, option_map, codes, if◌then◌else◌}
 use Rattle.std.specs.Borrow.{Bor}
 use Rattle.std.specs.Str.{bytes_eq}
 use Rattle.std.specs.Str.Parse.{IsNumeral, digits_value, without_leading_plus}
@@ -18,6 +18,7 @@ use Rattle.otp_words.specs.declared.words.Command.{Command}
 use Rattle.otp_words.specs.declared.words.Command.TheVariants as command
 use Rattle.otp_words.specs.declared.words.Form.{Form}
 use Rattle.otp_words.specs.declared.words.Form.TheVariants as form
+use Rattle.otp_words.specs.declared.words.LogReading.{LogReading}
 use Rattle.otp_words.specs.declared.words.Page.{Page}
 use Rattle.otp_words.specs.declared.words.Page.TheVariants as page
 use Rattle.otp_words.specs.declared.words.RunShows.{RunShows}
@@ -90,6 +91,20 @@ AreTrialShowsOf rows shows =
     IsFlagOf rows (codes "timeline") shows.is_drawn × (IsFlagOf rows (codes "quiet") shows.is_quiet
     × (IsClockOf rows shows.clock × IsNumberOf rows (codes "width") shows.width))
 
+-- the name is that of standard input
+abbrev pub is_input : Text → Bool
+is_input name = bytes_eq name (codes "-")
+
+-- a file of this name is read, if one is named, and it is standard input
+abbrev pub is_input_named : Option (Bor Text) → Bool
+is_input_named None = false
+is_input_named (Some name) = is_input name.now
+
+-- how a log of another program is read: by which file of ids, and whether each child has to be known
+abbrev pub IsReadingOf : List Row → LogReading → Type 0
+IsReadingOf rows reading =
+    (option_map (λ name. name.now) reading.ids ≡ first_of (codes "ids") rows) × IsFlagOf rows (codes "strict") reading.is_strict
+
 -- the name of the place where a page goes: the output has that of standard input
 abbrev pub page_name : Page → Text
 page_name page.Output = codes "-"
@@ -117,9 +132,10 @@ AsksUse name rows (usage.Limit pick grain form) =
 AsksUse name rows (usage.Suggest child every) =
     (name ≡ codes "suggest") × ((first_of (codes "child") rows ≡ Some child.now) × (first_of (codes "every") rows ≡ Some every.now))
 AsksUse name rows (usage.Compare other) = (name ≡ codes "diff") × (first_of (codes "OTHER") rows ≡ Some other.now)
-AsksUse name rows (usage.Replay log is_listed shows) =
-    (name ≡ codes "replay") × ((first_of (codes "LOG") rows ≡ Some log.now)
-    × (IsFlagOf rows (codes "unmatched") is_listed × AreTrialShowsOf rows shows))
+AsksUse name rows (usage.Replay log reading is_listed shows) =
+    (name ≡ codes "replay") × ((first_of (codes "LOG") rows ≡ Some log.now) × (IsReadingOf rows reading
+    × (((is_input log.now && is_input_named reading.ids) ≡ false)
+    × (IsFlagOf rows (codes "unmatched") is_listed × AreTrialShowsOf rows shows))))
 AsksUse name rows (usage.Import of_commands) = (name ≡ codes "import") × IsFlagOf rows (codes "commands") of_commands
 
 -- how a tree is run
@@ -139,16 +155,12 @@ AreTimesOf rows serving =
     (time_given (first_of (codes "for") rows) ≡ Some (Some serving.time)) × ((time_given (first_of (codes "grace") rows) ≡ Some serving.grace)
     × IsFlagOf rows (codes "log") serving.is_logged)
 
--- the name is that of standard input
-abbrev pub is_input : Text → Bool
-is_input name = bytes_eq name (codes "-")
-
 -- whether standard input is read beside the tree file: by `try` where it has the script, or where another file is named so
 unfoldable pub wants_input : Usage → Bool
 wants_input (usage.Try None writer shows form) = true
 wants_input (usage.Try (Some script) writer shows form) = is_input script.now
 wants_input (usage.Compare other) = is_input other.now
-wants_input (usage.Replay log is_listed shows) = is_input log.now
+wants_input (usage.Replay log reading is_listed shows) = is_input log.now || is_input_named reading.ids
 wants_input _ = false
 
 -- standard input is no more than one of these files

@@ -92,9 +92,12 @@ replayed_app =
     with_rule (with_rule (with_rule (file_app (codes "replay")) (place_rule (codes "LOG"))) (flag_rule (codes "unmatched")))
     (flag_rule (codes "timeline"))
 
-abbrev pub replay_app : App
-replay_app =
+abbrev pub shown_replay_app : App
+shown_replay_app =
     with_rule (with_rule (with_rule replayed_app (flag_rule (codes "quiet"))) clock_rule) (number_rule (codes "width") 1000 (codes "80"))
+
+abbrev pub replay_app : App
+replay_app = with_rule (with_rule shown_replay_app (option_rule (codes "ids"))) (flag_rule (codes "strict"))
 
 abbrev pub import_app : App
 import_app = with_rule (file_app (codes "import")) (flag_rule (codes "commands"))

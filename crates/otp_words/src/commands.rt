@@ -2,7 +2,7 @@
 
 ghost use Rattle.std.specs.Prelude.{◌≡◌, true, false, codes, IfOk};
 ghost use Rattle.clap.specs.Words.{app_of, new_app, rule_of, with_rule, with_subcommand};
-ghost use Rattle.otp_words.specs.Commands.{bare_app, check_app, clock_rule, diff_app, file_app, file_rule, files_rule, flag_rule, import_app, limits_app, needed_rule, number_rule, option_rule, otp_app, picked_app, place_rule, played_app, replay_app, replayed_app, run_app, scheduled_app, shown_app, suggest_app, tree_app, tried_app, try_app};
+ghost use Rattle.otp_words.specs.Commands.{bare_app, check_app, clock_rule, diff_app, file_app, file_rule, files_rule, flag_rule, import_app, limits_app, needed_rule, number_rule, option_rule, otp_app, picked_app, place_rule, played_app, replay_app, replayed_app, run_app, scheduled_app, shown_app, shown_replay_app, suggest_app, tree_app, tried_app, try_app};
 
 use crate::help::*;
 use clap::{Arg, ArgAction};
@@ -267,13 +267,22 @@ fn replayed_command<'a>(alloc: Global) -> Result<clap::Command<'a>, AllocError>
 }
 
 /// `replay FILE LOG [--unmatched] [--timeline] [--quiet] [--clock CLOCK] [--width N]`.
-fn replay_command<'a>(alloc: Global) -> Result<clap::Command<'a>, AllocError>
-    ensures { IfOk result (λ c. app_of c ≡ replay_app) }
+fn shown_replay_command<'a>(alloc: Global) -> Result<clap::Command<'a>, AllocError>
+    ensures { IfOk result (λ c. app_of c ≡ shown_replay_app) }
 {
     let command = replayed_command(alloc)?;
     let command = with_arg(command, flag_arg(alloc, "quiet", QUIET_HELP))?;
     let command = with_arg(command, clock_arg(alloc))?;
     with_arg(command, width_arg(alloc))
+}
+
+/// The same with `[--ids IDS] [--strict]`.
+fn replay_command<'a>(alloc: Global) -> Result<clap::Command<'a>, AllocError>
+    ensures { IfOk result (λ c. app_of c ≡ replay_app) }
+{
+    let command = shown_replay_command(alloc)?;
+    let command = with_arg(command, option_arg(alloc, "ids", "IDS", IDS_HELP))?;
+    with_arg(command, flag_arg(alloc, "strict", STRICT_HELP))
 }
 
 /// `run FILE [--schedulers N] [--turns N]`.

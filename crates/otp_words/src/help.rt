@@ -76,9 +76,14 @@ pub(crate) const REPLAY_ABOUT: &str =
     "What a tree would have done, had happened to it what a log tells";
 
 pub(crate) const REPLAY_EXAMPLE: &str =
-    "Example: otp replay examples/shop.toml examples/shop.log\nA line is a time and what happened: 2026-11-26T20:49:00.125Z crash db, or\n12.250 exit pool/a normal. The first line that is played is the time zero.\nStatuses: 0 all such lines were played, 1 a file or its tree, 2 the words, or a\nline whose time can't be, 3 2^62 events, 4 output or memory, 5 a line could do\nnothing, 6 what a line expects (`up db`) is not so, 8 none was played.\nFormats: docs/FORMATS.md, under Replays.";
+    "Example: otp replay examples/shop.toml examples/shop.log\nA line is a time and what happened: 2026-11-26T20:49:00.125Z crash db, or\n12.250 exit pool/a normal. The first line that is played is the time zero.\nStatuses: 0 all such lines were played, 1 a file or its tree, 2 the words, or a\nline whose time can't be, 3 2^62 events, 4 output or memory, 5 a line could do\nnothing, 6 what a line expects (`up db`) is not so, 8 none was played.\nLogs of OTP, Elixir, supervisord, systemd and otp-procs are read as they are.\nFormats: docs/FORMATS.md, under Replays.";
 
 pub(crate) const LOG_FILE_HELP: &str = "The log; - is standard input, up to 1 MiB";
+
+pub(crate) const IDS_HELP: &str =
+    "A file with a line NAME PATH for each name that a log has for a child";
+
+pub(crate) const STRICT_HELP: &str = "A child that isn't in the tree gives status 5";
 
 pub(crate) const UNMATCHED_HELP: &str = "Lists the lines of the log that weren't played";
 

@@ -16,6 +16,6 @@ mod words;
 
 pub use slips::{Meant, Slip};
 pub use words::{
-    Checking, Command, Form, Page, RunShows, Serving, TrialShows, Usage, WordsFault, read_words,
-    words_of,
+    Checking, Command, Form, LogReading, Page, RunShows, Serving, TrialShows, Usage, WordsFault,
+    read_words, words_of,
 };

@@ -1,7 +1,7 @@
 //! Slips in the words that `clap` takes, or of which it tells less than it could: what was meant, and what to do instead.
 
 ghost use Rattle.std.specs.Prelude.{◌≡◌, false};
-ghost use Rattle.otp_words.specs.Asked.{IsReadOnce, is_input, wants_input};
+ghost use Rattle.otp_words.specs.Asked.{IsReadOnce, is_input, is_input_named, wants_input};
 ghost use Rattle.otp_words.specs.Words.{meant_text, slip_text};
 
 use crate::words::Usage;
@@ -96,6 +96,16 @@ pub(crate) fn is_input(name: &str) -> bool
     name == "-"
 }
 
+/// Whether a file is named, and is standard input.
+pub(crate) fn is_input_named(name: Option<&str>) -> bool
+    ensures { result ≡ is_input_named name.entry }
+{
+    match name {
+        None => false,
+        Some(name) => is_input(name),
+    }
+}
+
 /// Whether standard input is read beside the tree file.
 #[tactic(auto, unfolding(crate::specs::Asked::wants_input))]
 pub(crate) fn wants_input(usage: &Usage<'_>) -> bool
@@ -108,7 +118,7 @@ pub(crate) fn wants_input(usage: &Usage<'_>) -> bool
             ..
         } => is_input(script),
         Usage::Compare { other } => is_input(other),
-        Usage::Replay { log, .. } => is_input(log),
+        Usage::Replay { log, reading, .. } => is_input(log) || is_input_named(reading.ids),
         Usage::Draw { .. } | Usage::Stop | Usage::Limit { .. } | Usage::Suggest { .. } => false,
         Usage::Import { .. } => false,
     }

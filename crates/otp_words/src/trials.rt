@@ -6,7 +6,8 @@ ghost use Rattle.otp_words.specs.Asked.{AreTrialShowsOf, AsksUse, clock_in, cloc
 ghost use Rattle.otp_words.specs.Words.{IsHandedOn};
 
 use crate::getters::{form_in, is_set, value_of, width_in};
-use crate::words::{TrialShows, Usage, WordsFault};
+use crate::slips::{Slip, is_input, is_input_named};
+use crate::words::{LogReading, TrialShows, Usage, WordsFault};
 use clap::ArgMatches;
 use otp_trial::Clock;
 use otp_try::Writer;
@@ -98,9 +99,17 @@ pub(crate) fn read_replay<'a>(found: &ArgMatches<'a>) -> Result<Usage<'a>, Words
     let Some(log) = value_of(found, "LOG") else {
         return Err(WordsFault::NoCommand);
     };
+    let reading = LogReading {
+        ids: value_of(found, "ids"),
+        is_strict: is_set(found, "strict"),
+    };
+    if is_input(log) && is_input_named(reading.ids) {
+        return Err(WordsFault::Slip(Slip::InputTwice));
+    }
     let shows = trial_shows_in(found)?;
     Ok(Usage::Replay {
         log,
+        reading,
         is_listed: is_set(found, "unmatched"),
         shows,
     })
