@@ -1,0 +1,14 @@
+-- What is found in a file whose tree is lawful (own).
+use Rattle.std.specs.Prelude.{◌≡◌, ℕ, List, map, Ok}
+use Rattle.otp_file.specs.Files.{Says}
+use Rattle.otp_file.specs.Trees.{Tree}
+use Rattle.otp_lint.specs.Lint.{remarks_in}
+use Rattle.otp_lint.specs.Texts.{remark_text}
+use Rattle.otp_lint.specs.declared.found.LintFinding.{LintFinding}
+
+abbrev pub text_of : LintFinding → List ℕ
+text_of finding = finding.text.items
+
+-- these are the texts of all remarks on the tree that the file says, in their order
+abbrev pub Finds : List LintFinding → List ℕ → Type 0
+Finds findings file = (tree : Tree) × (Says file (Ok tree) × (map text_of findings ≡ map remark_text (remarks_in tree)))
