@@ -1,5 +1,5 @@
 -- Files that are checked one after the other.
-use Rattle.std.proofs.Common.{◌≡◌, ◌<◌, ◌≤◌, ◌+◌, ◌∙◌, ◌⊎◌, inl, inr, ℕ, Bool, List, [], ◌∷◌, ◌++◌, true, false, refl, ap, sym, subst, take, drop, length, get_or}
+use Rattle.std.proofs.Common.{◌≡◌, ◌<◌, ◌≤◌, ◌+◌, ◌∙◌, ◌⊎◌, inl, inr, ℕ, List, [], ◌∷◌, ◌++◌, true, false, refl, ap, sym, subst, take, drop, length, get_or}
 use Prim.Native.Nat.{suc}
 use Rattle.std.proofs.lemmas.List.{take_all, take_more, take-append-drop}
 use Rattle.std.proofs.Math.Seq.{drop-cons}
@@ -8,29 +8,30 @@ use Rattle.otp_ending.specs.declared.ending.ProgramEnd.{ProgramEnd}
 use Rattle.otp_ending.specs.declared.ending.ProgramEnd.TheVariants.{Done}
 use Rattle.otp_ending.specs.Told.{goes_on, worse}
 use Rattle.otp_console.specs.Runs.{Checks, ChecksAll, ChecksEach}
+use Rattle.otp_words.specs.declared.words.Checking.{Checking}
 
 -- one more, behind those that were checked
-checked_more : {T : Type 0} (starts : Bool) (Holds : T → List ℕ → Type 0) (names : List T) (name : T) (before so_far next : ProgramEnd) (old mid new : Written)
-    → ChecksEach starts Holds names before so_far old mid → goes_on next ≡ true → Checks starts (Holds name) next mid new
-    → ChecksEach starts Holds (names ++ name ∷ []) before (worse so_far next) old new
-checked_more starts Holds [] name before so_far next old mid new (is, same) goes done =
-    (next, new, goes, subst (λ (from : Written). Checks starts (Holds name) next from new) same done, (ap (λ (ending : ProgramEnd). worse ending next) is, refl))
-checked_more starts Holds (first ∷ names) name before so_far next old mid new (ending, from, could, checked, rest) goes done =
-    (ending, from, could, checked, checked_more starts Holds names name (worse before ending) so_far next from mid new rest goes done)
+checked_more : {T : Type 0} (checking : Checking) (Holds : T → List ℕ → Type 0) (names : List T) (name : T) (before so_far next : ProgramEnd) (old mid new : Written)
+    → ChecksEach checking Holds names before so_far old mid → goes_on next ≡ true → Checks checking (Holds name) next mid new
+    → ChecksEach checking Holds (names ++ name ∷ []) before (worse so_far next) old new
+checked_more checking Holds [] name before so_far next old mid new (is, same) goes done =
+    (next, new, goes, subst (λ (from : Written). Checks checking (Holds name) next from new) same done, (ap (λ (ending : ProgramEnd). worse ending next) is, refl))
+checked_more checking Holds (first ∷ names) name before so_far next old mid new (ending, from, could, checked, rest) goes done =
+    (ending, from, could, checked, checked_more checking Holds names name (worse before ending) so_far next from mid new rest goes done)
 
 -- the same of the files of a list, up to a place
-pub checked_next : {T : Type 0} (starts : Bool) (Holds : T → List ℕ → Type 0) (names : List T) (i : ℕ) (d : T) (so_far next : ProgramEnd) (old mid new : Written) → i < length names
-    → ChecksEach starts Holds (take i names) Done so_far old mid → goes_on next ≡ true → Checks starts (Holds (get_or names i d)) next mid new
-    → ChecksEach starts Holds (take (i + 1) names) Done (worse so_far next) old new
-checked_next {T} starts Holds names i d so_far next old mid new inside before goes done =
-    subst (λ (some : List T). ChecksEach starts Holds some Done (worse so_far next) old new) (sym (take_more names i d inside))
-    (checked_more starts Holds (take i names) (get_or names i d) Done so_far next old mid new before goes done)
+pub checked_next : {T : Type 0} (checking : Checking) (Holds : T → List ℕ → Type 0) (names : List T) (i : ℕ) (d : T) (so_far next : ProgramEnd) (old mid new : Written) → i < length names
+    → ChecksEach checking Holds (take i names) Done so_far old mid → goes_on next ≡ true → Checks checking (Holds (get_or names i d)) next mid new
+    → ChecksEach checking Holds (take (i + 1) names) Done (worse so_far next) old new
+checked_next {T} checking Holds names i d so_far next old mid new inside before goes done =
+    subst (λ (some : List T). ChecksEach checking Holds some Done (worse so_far next) old new) (sym (take_more names i d inside))
+    (checked_more checking Holds (take i names) (get_or names i d) Done so_far next old mid new before goes done)
 
 -- the check of the file at a place ended it
-pub checked_first : {T : Type 0} (starts : Bool) (Holds : T → List ℕ → Type 0) (names : List T) (i : ℕ) (d : T) (so_far ending : ProgramEnd) (old mid new : Written) → i < length names
-    → ChecksEach starts Holds (take i names) Done so_far old mid → goes_on ending ≡ false → Checks starts (Holds (get_or names i d)) ending mid new
-    → ChecksAll starts Holds names ending old new
-checked_first {T} starts Holds names i d so_far ending old mid new inside before ends done = inr (
+pub checked_first : {T : Type 0} (checking : Checking) (Holds : T → List ℕ → Type 0) (names : List T) (i : ℕ) (d : T) (so_far ending : ProgramEnd) (old mid new : Written) → i < length names
+    → ChecksEach checking Holds (take i names) Done so_far old mid → goes_on ending ≡ false → Checks checking (Holds (get_or names i d)) ending mid new
+    → ChecksAll checking Holds names ending old new
+checked_first {T} checking Holds names i d so_far ending old mid new inside before ends done = inr (
   take i names,
   get_or names i d,
   drop (suc i) names,
@@ -43,7 +44,7 @@ checked_first {T} starts Holds names i d so_far ending old mid new inside before
 )
 
 -- all of them were checked
-pub checked_all : {T : Type 0} (starts : Bool) (Holds : T → List ℕ → Type 0) (names : List T) (i : ℕ) (ending : ProgramEnd) (old new : Written) → length names ≤ i
-    → ChecksEach starts Holds (take i names) Done ending old new → ChecksAll starts Holds names ending old new
-checked_all {T} starts Holds names i ending old new all each =
-    inl (subst (λ (some : List T). ChecksEach starts Holds some Done ending old new) (take_all i names all) each)
+pub checked_all : {T : Type 0} (checking : Checking) (Holds : T → List ℕ → Type 0) (names : List T) (i : ℕ) (ending : ProgramEnd) (old new : Written) → length names ≤ i
+    → ChecksEach checking Holds (take i names) Done ending old new → ChecksAll checking Holds names ending old new
+checked_all {T} checking Holds names i ending old new all each =
+    inl (subst (λ (some : List T). ChecksEach checking Holds some Done ending old new) (take_all i names all) each)

@@ -18,6 +18,8 @@ use Rattle.otp_ending.specs.Told.{IsSmall, Tells, TellsFirst, goes_on, worse}
 use Rattle.otp_ending.specs.declared.ending.Unwritten.{Unwritten}
 use Rattle.otp_ending.specs.declared.ending.ProgramEnd.{ProgramEnd}
 use Rattle.otp_ending.specs.declared.ending.ProgramEnd.TheVariants.{Done, WordsRefused, NoCommand, WordNotText, FileAsCommand, TreeNotRead, FileNotRead, TreeRefused, FaultsFound, LineRefused, HistoryFull, InputFailed, OutputFailed, OutOfMemory, UnknownClock, NotATime, NeedsFor, CountsTurns, Refused}
+use Rattle.otp_lint.specs.Found.{HasRemarks, IsPlain}
+use Rattle.otp_words.specs.declared.words.Checking.{Checking}
 use Rattle.otp_words.specs.declared.words.Command.{Command}
 use Rattle.otp_words.specs.declared.words.Command.TheVariants as command
 use Rattle.otp_console.specs.Trees.{TreeRuns}
@@ -73,43 +75,53 @@ IsLawfulFor true file = IsRunnable file
 abbrev pub HasFaults : List ℕ → Type 0
 HasFaults file = ((why : TreeFault) × IsFirstFault why file) ⊎ ((why : PlanFault) × HasStarts file why)
 
--- a file was checked, with its starts or without: how that ends says whether it says a tree (which can be run). What is written
--- of its faults is said nowhere
-abbrev pub IsChecked : Bool → ProgramEnd → List ℕ → Written → Written → Type 0
-IsChecked starts Done file old new = IsLawfulFor starts file
-IsChecked starts FaultsFound file old new = HasFaults file
-IsChecked starts OutputFailed file old new = old.failures < new.failures
-IsChecked starts OutOfMemory file old new = new ≡ old
-IsChecked starts _ file old new = ⊥
+-- where remarks are wanted, there is none on the file's tree
+abbrev pub IsPlainFor : Bool → List ℕ → Type 0
+IsPlainFor false file = Unit {0}
+IsPlainFor true file = IsPlain file
+
+-- remarks are wanted, and there is one on the file's tree
+abbrev pub HasRemarksFor : Bool → List ℕ → Type 0
+HasRemarksFor false file = ⊥
+HasRemarksFor true file = HasRemarks file
+
+-- a file was checked, with its starts or without, and with remarks or without: how that ends says whether it says a tree (which can be
+-- run, and on which there is no remark). What is written of its faults is said nowhere
+abbrev pub IsChecked : Checking → ProgramEnd → List ℕ → Written → Written → Type 0
+IsChecked checking Done file old new = IsLawfulFor checking.has_starts file × IsPlainFor checking.has_remarks file
+IsChecked checking FaultsFound file old new = HasFaults file ⊎ HasRemarksFor checking.has_remarks file
+IsChecked checking OutputFailed file old new = old.failures < new.failures
+IsChecked checking OutOfMemory file old new = new ≡ old
+IsChecked checking _ file old new = ⊥
 
 -- the check of a file whose bytes are known to be so: it can't be read, which is written, or it was checked
-abbrev pub Checks : Bool → (List ℕ → Type 0) → ProgramEnd → Written → Written → Type 0
-Checks starts Holds ending old new =
+abbrev pub Checks : Checking → (List ℕ → Type 0) → ProgramEnd → Written → Written → Type 0
+Checks checking Holds ending old new =
     IsWritten ending FileNotRead old new ⊎ ((ending ≡ OutOfMemory) × (new ≡ old))
-    ⊎ ((file : List ℕ) × ((Holds file × IsSmall file) × IsChecked starts ending file old new))
+    ⊎ ((file : List ℕ) × ((Holds file × IsSmall file) × IsChecked checking ending file old new))
 
 -- these files were checked, one after the other, and after each the next could be; before them it was to end so
-abbrev pub ChecksEach : {T : Type 0} → Bool → (T → List ℕ → Type 0) → List T → ProgramEnd → ProgramEnd → Written → Written → Type 0
-ChecksEach starts Holds [] so_far ending old new = (ending ≡ so_far) × (new ≡ old)
-ChecksEach starts Holds (name ∷ names) so_far ending old new =
-    (next : ProgramEnd) × (mid : Written) × (goes_on next ≡ true) × Checks starts (Holds name) next old mid
-    × ChecksEach starts Holds names (worse so_far next) ending mid new
+abbrev pub ChecksEach : {T : Type 0} → Checking → (T → List ℕ → Type 0) → List T → ProgramEnd → ProgramEnd → Written → Written → Type 0
+ChecksEach checking Holds [] so_far ending old new = (ending ≡ so_far) × (new ≡ old)
+ChecksEach checking Holds (name ∷ names) so_far ending old new =
+    (next : ProgramEnd) × (mid : Written) × (goes_on next ≡ true) × Checks checking (Holds name) next old mid
+    × ChecksEach checking Holds names (worse so_far next) ending mid new
 
 -- the first of these files were checked so, and the check of the next one ended it
-abbrev pub ChecksFirst : {T : Type 0} → Bool → (T → List ℕ → Type 0) → List T → ProgramEnd → Written → Written → Type 0
-ChecksFirst {T} starts Holds names ending old new =
+abbrev pub ChecksFirst : {T : Type 0} → Checking → (T → List ℕ → Type 0) → List T → ProgramEnd → Written → Written → Type 0
+ChecksFirst {T} checking Holds names ending old new =
     (first : List T) × (name : T) × (others : List T) × (so_far : ProgramEnd) × (mid : Written)
-    × (names ≡ first ++ name ∷ others) × ChecksEach starts Holds first Done so_far old mid × (goes_on ending ≡ false) × Checks starts (Holds name) ending mid new
+    × (names ≡ first ++ name ∷ others) × ChecksEach checking Holds first Done so_far old mid × (goes_on ending ≡ false) × Checks checking (Holds name) ending mid new
 
 -- these files were checked, or the first of them up to one whose check ended it
-abbrev pub ChecksAll : {T : Type 0} → Bool → (T → List ℕ → Type 0) → List T → ProgramEnd → Written → Written → Type 0
-ChecksAll starts Holds names ending old new = ChecksEach starts Holds names Done ending old new ⊎ ChecksFirst starts Holds names ending old new
+abbrev pub ChecksAll : {T : Type 0} → Checking → (T → List ℕ → Type 0) → List T → ProgramEnd → Written → Written → Type 0
+ChecksAll checking Holds names ending old new = ChecksEach checking Holds names Done ending old new ⊎ ChecksFirst checking Holds names ending old new
 
 -- what a command asks for was done
 abbrev pub Does : Files → TreeRuns → Command → ProgramEnd → Devices → Devices → Type 0
 Does known trees (command.Sim file) ending old new = Simulates (known.holds file.now) ending old new
 Does known trees (command.Check files checking) ending old new =
-    IsUnread old new × ChecksAll checking.has_starts (λ name. known.holds name.now) files.items ending old.output new.output
+    IsUnread old new × ChecksAll checking (λ name. known.holds name.now) files.items ending old.output new.output
 Does known trees (command.Run file settings shows) ending old new =
     IsUnread old new × trees.by_turns (known.holds file.now) shows.is_json file.now settings.counted ending old.output new.output
 Does known trees (command.Serve file settings serving shows) ending old new =

@@ -1,12 +1,15 @@
 //! `check`: what is wrong in a tree file?
 
 ghost use Rattle.std.specs.Prelude.{◌≡◌, ◌≤◌, ◌<◌, true, OnErr};
-ghost use Rattle.otp_console.specs.Runs.{IsChecked, IsWritten};
+ghost use Rattle.otp_console.specs.Runs.{IsChecked, IsLawfulFor, IsWritten};
 ghost use Rattle.otp_ending.specs.declared.ending.ProgramEnd.TheVariants.{Done, FaultsFound, FileNotRead};
 
-use crate::objects::{write_fault_object, write_lawful_object, write_unread_object};
+use crate::objects::{
+    write_fault_object, write_lawful_object, write_remark_object, write_unread_object,
+};
 use otp_check::{Remark, check, warning};
 use otp_ending::{ProgramEnd, write_numbered, write_three};
+use otp_lint::find_remarks;
 use otp_sim::{Failed, Output, write_all};
 use otp_starts::find_unfit;
 use otp_words::Checking;
@@ -15,7 +18,8 @@ use std::alloc::Global;
 /// How many findings of a file are written where not all are wanted.
 const MOST_WRITTEN: usize = 20;
 
-/// Writes all that is wrong in a file, a line for each fault, that for which its tree is refused first.
+/// Writes all that is wrong in a file, a line for each fault, that for which its tree is refused first. Of a file in which nothing
+/// is wrong it writes the remarks, where they are wanted.
 pub fn check_file<'a, W: Output>(
     alloc: Global,
     name: &'a str,
@@ -23,7 +27,7 @@ pub fn check_file<'a, W: Output>(
     checking: Checking,
     output: &mut W,
 ) -> ProgramEnd<'a>
-    ensures { IsChecked checking.has_starts result file.now
+    ensures { IsChecked checking result file.now
         (W.seen output.old) (W.seen output.new) }
 {
     let Ok(findings) = check(alloc, file) else {
@@ -31,7 +35,7 @@ pub fn check_file<'a, W: Output>(
     };
     match findings.as_slice() {
         [] if checking.has_starts => check_starts(alloc, name, file, checking, output),
-        [] => write_lawful(alloc, name, file, checking, output),
+        [] => check_remarks(alloc, name, file, checking, output),
         faults => write_faults(name, faults, checking, output),
     }
 }
@@ -45,15 +49,39 @@ fn check_starts<'a, W: Output>(
     output: &mut W,
 ) -> ProgramEnd<'a>
     requires starts { checking.has_starts ≡ true }
-    ensures { IsChecked checking.has_starts result file.now
+    ensures { IsChecked checking result file.now
         (W.seen output.old) (W.seen output.new) }
 {
     let Ok(findings) = find_unfit(alloc, file) else {
         return ProgramEnd::OutOfMemory;
     };
     match findings.as_slice() {
-        [] => write_lawful(alloc, name, file, checking, output),
+        [] => check_remarks(alloc, name, file, checking, output),
         unfit => write_faults(name, unfit, checking, output),
+    }
+}
+
+/// Writes the remarks on the tree of a lawful file, where they are wanted and there are some.
+fn check_remarks<'a, W: Output>(
+    alloc: Global,
+    name: &'a str,
+    file: &[u8],
+    checking: Checking,
+    output: &mut W,
+) -> ProgramEnd<'a>
+    requires lawful { IsLawfulFor checking.has_starts file.now }
+    ensures { IsChecked checking result file.now
+        (W.seen output.old) (W.seen output.new) }
+{
+    if !checking.has_remarks {
+        return write_lawful(alloc, name, file, checking, output);
+    }
+    let Ok(remarks) = find_remarks(alloc, file) else {
+        return ProgramEnd::OutOfMemory;
+    };
+    match remarks.as_slice() {
+        [] => write_lawful(alloc, name, file, checking, output),
+        some => write_remarks(name, some, checking, output),
     }
 }
 
@@ -97,6 +125,26 @@ fn write_faults<'a, W: Output, F: Remark>(
         write_fault_object(name, faults, output)
     } else {
         write_some(name, faults, checking.has_all, output)
+    };
+    match written {
+        Ok(()) => ProgramEnd::FaultsFound,
+        Err(Failed) => ProgramEnd::OutputFailed,
+    }
+}
+
+/// Writes the remarks on the tree of a lawful file.
+fn write_remarks<'a, W: Output, F: Remark>(
+    name: &'a str,
+    remarks: &[F],
+    checking: Checking,
+    output: &mut W,
+) -> ProgramEnd<'a>
+    ensures { IsWritten result FaultsFound (W.seen output.old) (W.seen output.new) }
+{
+    let written = if checking.is_json {
+        write_remark_object(name, remarks, output)
+    } else {
+        write_some(name, remarks, checking.has_all, output)
     };
     match written {
         Ok(()) => ProgramEnd::FaultsFound,

@@ -1,7 +1,7 @@
 //! What `check` finds, as JSON: an object a line for each file, `{"file": NAME, "faults": [{"line": L, "text": TEXT}]}`.
 //!
-//! A line that isn't known is `null`. An object of a lawful file has no faults, and may have a `warning`; that of a file that
-//! can't be read has `unread` in the place of `faults`.
+//! A line that isn't known is `null`. An object of a lawful file has no faults, and may have a `warning`, or `remarks` in the form of
+//! faults; that of a file that can't be read has `unread` in the place of `faults`.
 
 ghost use Rattle.std.specs.Prelude.{◌≤◌, ◌<◌, OnErr};
 
@@ -85,7 +85,30 @@ pub(crate) fn write_fault_object<W: Output, F: Remark>(
     ensures kept { (W.seen output.old).failures ≤ (W.seen output.new).failures }
 {
     write_head(name, output)?;
-    write_all(output, b", \"faults\": [")?;
+    write_all(output, b", \"faults\": ")?;
+    write_list(faults, output)
+}
+
+/// Writes the object of a lawful file on whose tree there are remarks.
+pub(crate) fn write_remark_object<W: Output, F: Remark>(
+    name: &str,
+    remarks: &[F],
+    output: &mut W,
+) -> Result<(), Failed>
+    ensures failed { OnErr result ((W.seen output.old).failures < (W.seen output.new).failures) }
+    ensures kept { (W.seen output.old).failures ≤ (W.seen output.new).failures }
+{
+    write_head(name, output)?;
+    write_all(output, b", \"faults\": [], \"remarks\": ")?;
+    write_list(remarks, output)
+}
+
+/// Writes a list of objects, and the end of that of the file.
+fn write_list<W: Output, F: Remark>(faults: &[F], output: &mut W) -> Result<(), Failed>
+    ensures failed { OnErr result ((W.seen output.old).failures < (W.seen output.new).failures) }
+    ensures kept { (W.seen output.old).failures ≤ (W.seen output.new).failures }
+{
+    write_all(output, b"[")?;
     if let [first, others @ ..] = faults {
         write_fault(first, output)?;
         write_next(others, output)?;

@@ -137,7 +137,7 @@ fn check_all<'a, F: TreeFiles, W: Output>(
     checking: Checking,
     output: &mut W,
 ) -> ProgramEnd<'a>
-    ensures { ChecksAll checking.has_starts (λ name. (F.known files.now).holds name.now)
+    ensures { ChecksAll checking (λ name. (F.known files.now).holds name.now)
         names.now result (W.seen output.old) (W.seen output.new) }
 {
     let mut ending = ProgramEnd::Done;
@@ -159,7 +159,7 @@ fn check_named<'a, F: TreeFiles, W: Output>(
     checking: Checking,
     output: &mut W,
 ) -> ProgramEnd<'a>
-    ensures { Checks checking.has_starts ((F.known files.now).holds name.now) result
+    ensures { Checks checking ((F.known files.now).holds name.now) result
         (W.seen output.old) (W.seen output.new) }
 {
     match read_small(files, name) {

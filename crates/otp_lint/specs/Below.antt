@@ -16,9 +16,12 @@ use Rattle.otp_stops.specs.Stops.{later}
 use Rattle.otp_lint.specs.declared.below.Below.{Below}
 use Rattle.otp_lint.specs.declared.below.Seen.{Seen}
 
--- a table, of a tree that is read
-abbrev pub own_table : Bor Tree → Table
-own_table tree = record { flags = tree.now.flags; specs = tree.now.specs; nested = tree.now.nested }
+-- the table of a tree's own supervisor
+abbrev pub own_table : Tree → Table
+own_table tree = record { flags = tree.flags; specs = tree.specs; nested = tree.nested }
+
+abbrev pub table_of : Bor Tree → Table
+table_of tree = own_table tree.now
 
 -- what is known of the tree of the child at this place, if it has one: the trees are those of the children at the places
 abbrev pub below_at : ℕ → List ℕ → List Below → Option Below

@@ -1,5 +1,5 @@
 -- What is found in a file whose tree is lawful (own).
-use Rattle.std.specs.Prelude.{◌≡◌, ℕ, List, map, Ok}
+use Rattle.std.specs.Prelude.{◌≡◌, ℕ, List, [], ◌∷◌, map, Ok}
 use Rattle.otp_file.specs.Files.{Says}
 use Rattle.otp_file.specs.Trees.{Tree}
 use Rattle.otp_lint.specs.Lint.{remarks_in}
@@ -12,3 +12,16 @@ text_of finding = finding.text.items
 -- these are the texts of all remarks on the tree that the file says, in their order
 abbrev pub Finds : List LintFinding → List ℕ → Type 0
 Finds findings file = (tree : Tree) × (Says file (Ok tree) × (map text_of findings ≡ map remark_text (remarks_in tree)))
+
+-- there is nothing to remark on the tree that the file says
+abbrev pub IsPlain : List ℕ → Type 0
+IsPlain file = (tree : Tree) × (Says file (Ok tree) × (remarks_in tree ≡ []))
+
+-- there is something to remark on it
+abbrev pub HasRemarks : List ℕ → Type 0
+HasRemarks file = (tree : Tree) × (Says file (Ok tree) × ¬ (remarks_in tree ≡ []))
+
+-- nothing is found exactly where there is nothing to remark
+abbrev pub FindsAny : List LintFinding → List ℕ → Type 0
+FindsAny [] file = IsPlain file
+FindsAny (first ∷ others) file = HasRemarks file

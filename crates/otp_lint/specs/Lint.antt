@@ -79,12 +79,12 @@ is_process child = is_none child.tree && is_restartable child.spec.restart
 abbrev pub starts_as : Seen → Seen → Bool
 starts_as child other = is_process other && bytes_eq (name_bytes other.spec.start) (name_bytes child.spec.start)
 
--- of those of one start the first is remarked on
+-- of those of one start the first is remarked on; with it begin these
 unfoldable pub fan_out : SupFlags → List Seen → Seen → List Seen → Option Kind
-fan_out flags earlier child later =
+fan_out flags earlier child these =
     if is_alone flags.strategy && nat_le 1 flags.intensity && is_process child && not (list_any (starts_as child) earlier)
-    && nat_le flags.intensity (count_by (starts_as child) later)
-    then Some (kind.FanOut (count_by (starts_as child) later + 1) child.spec.start flags.intensity) else None
+    && nat_lt flags.intensity (count_by (starts_as child) these)
+    then Some (kind.FanOut (count_by (starts_as child) these) child.spec.start flags.intensity) else None
 
 -- L5: a significant child that nobody can end: its tree never ends by itself
 
@@ -132,12 +132,12 @@ abbrev pub remark_if : ℕ → Option ℕ → List ℕ → Option Kind → List 
 remark_if supervisor child path None = []
 remark_if supervisor child path (Some kind) = record { supervisor = supervisor; child = child; path = path; kind = kind } ∷ []
 
--- all remarks on a child at this place, of this path, by their kinds
-unfoldable pub remarks_at : ℕ → ℕ → List ℕ → SupFlags → List Seen → Seen → List Seen → List Remark
-remarks_at supervisor place path flags earlier child later =
+-- all remarks on a child at this place, of this path, by their kinds: it stands between these, and with it begin the last ones
+unfoldable pub remarks_at : ℕ → ℕ → List ℕ → SupFlags → List Seen → Seen → List Seen → List Seen → List Remark
+remarks_at supervisor place path flags earlier child later these =
     remark_if supervisor (Some place) path (long_stop flags earlier child later)
     ++ remark_if supervisor (Some place) path (endless_worker child)
-    ++ remark_if supervisor (Some place) path (fan_out flags earlier child later)
+    ++ remark_if supervisor (Some place) path (fan_out flags earlier child these)
     ++ remark_if supervisor (Some place) path (never_ends child.spec.significant child.tree)
     ++ remark_if supervisor (Some place) path (alike_id earlier child)
 
@@ -145,7 +145,7 @@ remarks_at supervisor place path flags earlier child later =
 abbrev pub remarks_from : ℕ → List ℕ → SupFlags → List Seen → ℕ → List Seen → List Remark
 remarks_from supervisor path flags children place [] = []
 remarks_from supervisor path flags children place (child ∷ others) =
-    remarks_at supervisor place (child_path path (name_bytes child.spec.id)) flags (take place children) child others
+    remarks_at supervisor place (child_path path (name_bytes child.spec.id)) flags (take place children) child others (child ∷ others)
     ++ remarks_from supervisor path flags children (place + 1) others
 
 -- all remarks on a supervisor, and then those on its children

@@ -1,8 +1,8 @@
 //! What is known of the tree of a child: how long its stop takes, and whether it ends by itself.
 
 ghost use Rattle.std.specs.Prelude.{◌≡◌, ◌+◌, ◌≤◌, ◌∷◌, ◌++◌, IfOk, OnOk, drop, length, map};
-ghost use Rattle.otp_lint.specs.Below.{below_at, below_in, below_of, is_ending, is_no_hindrance, is_restartable, is_significant, may_end_over, may_restart, may_shut_down, own_stop, own_table, plus, restarts_by, ends_by, seen_from, seen_in, stop_by, stop_in, stop_of};
-ghost use Rattle.otp_spec.specs.declared.limits.TheConstants.{MAX_READING};
+ghost use Rattle.std.specs.List.{list_all, list_any};
+ghost use Rattle.otp_lint.specs.Below.{below_at, below_in, below_of, ends_by, is_ending, is_no_hindrance, is_restartable, is_significant, may_restart, may_shut_down, own_stop, own_table, plus, restarts_by, seen_from, seen_in, stop_by, stop_in, stop_of, table_of};
 
 use otp_file::TreeSpec;
 use otp_spec::{AutoShutdown, ChildSpec, MAX_READING, Restart, Shutdown, SupFlags};
@@ -219,7 +219,7 @@ pub(crate) fn seen_in(
     tree: &TreeSpec,
     trees: &[Below],
 ) -> Result<Vec<Seen>, AllocError>
-    ensures { IfOk result (λ seen. seen.items ≡ seen_in (own_table tree) trees.now) }
+    ensures { IfOk result (λ seen. seen.items ≡ seen_in (own_table tree.now) trees.now) }
 {
     let mut seen = Vec::new(alloc);
     put_seen(
@@ -249,7 +249,7 @@ fn put_first(
 
 /// What is known of the trees that tables make up, which stand in the order of the walk.
 pub(crate) fn below_in(alloc: Global, tables: &[&TreeSpec]) -> Result<Vec<Below>, AllocError>
-    ensures { IfOk result (λ trees. trees.items ≡ below_in (map own_table tables.now)) }
+    ensures { IfOk result (λ trees. trees.items ≡ below_in (map table_of tables.now)) }
 {
     let [table, others @ ..] = tables else {
         return Ok(Vec::new(alloc));

@@ -31,7 +31,8 @@ fn put_remark(
     }
 }
 
-/// Puts all remarks on a child at this place, of this path, behind others.
+/// Puts all remarks on a child at this place, of this path, behind others: it stands between these, and with it begin the
+/// last ones.
 #[tactic(auto, unfolding(crate::specs::Lint::remarks_at))]
 fn put_at(
     alloc: Global,
@@ -42,16 +43,16 @@ fn put_at(
     earlier: &[Seen],
     child: &Seen,
     later: &[Seen],
+    these: &[Seen],
     out: &mut Remarks,
 ) -> Result<(), AllocError>
-    requires { length later.now ≤ 256 }
-    ensures { OnOk result (out.new ≡ out.old ++ remarks_at supervisor place path.now flags earlier.now child.now later.now) }
+    ensures { OnOk result (out.new ≡ out.old ++ remarks_at supervisor place path.now flags earlier.now child.now later.now these.now) }
 {
     let at = Some(place);
     let long = long_stop(flags, earlier, child, later);
     put_remark(alloc, supervisor, at, path, long, out)?;
     put_remark(alloc, supervisor, at, path, endless_worker(child), out)?;
-    let fan = fan_out(flags, earlier, child, later);
+    let fan = fan_out(flags, earlier, child, these);
     put_remark(alloc, supervisor, at, path, fan, out)?;
     let never = never_ends(child.spec.significant, child.tree);
     put_remark(alloc, supervisor, at, path, never, out)?;
@@ -69,8 +70,7 @@ fn put_from(
     rest: &[Seen],
     out: &mut Remarks,
 ) -> Result<(), AllocError>
-    requires places { place + length rest.now ≤ length children.now }
-    requires limit { length children.now ≤ 256 }
+    requires { place + length rest.now ≤ length children.now }
     ensures { OnOk result (out.new ≡ out.old ++ remarks_from supervisor path.now flags children.now place rest.now) }
 {
     match rest {
@@ -79,7 +79,7 @@ fn put_from(
             let own = path.child(alloc, &child.spec.id)?;
             let earlier = &children[..place];
             put_at(
-                alloc, supervisor, place, &own, flags, earlier, child, others, out,
+                alloc, supervisor, place, &own, flags, earlier, child, others, rest, out,
             )?;
             put_from(
                 alloc,
@@ -104,7 +104,6 @@ pub(crate) fn put_remarks_on(
     children: &[Seen],
     out: &mut Remarks,
 ) -> Result<(), AllocError>
-    requires { length children.now ≤ 256 }
     ensures { OnOk result (out.new ≡ out.old ++ remarks_on supervisor path.now flags children.now) }
 {
     let none = no_restart(flags, children);

@@ -1,7 +1,8 @@
 //! The remarks on the tree of a file, with the lines that they are about.
 
 ghost use Rattle.std.specs.Prelude.{◌≡◌, ◌++◌, IfOk, OnOk, map};
-ghost use Rattle.otp_lint.specs.Found.{Finds, text_of};
+ghost use Rattle.otp_lint.specs.Found.{Finds, FindsAny, text_of};
+ghost use Rattle.otp_lint.specs.Lint.{remarks_in};
 ghost use Rattle.otp_lint.specs.Texts.{remark_text};
 
 use crate::remark::{Kind, Remark};
@@ -140,7 +141,8 @@ fn findings_in(
 ///
 /// Where memory is refused, and for a file that says no tree.
 pub fn find_remarks(alloc: Global, file: &[u8]) -> Result<Vec<LintFinding>, AllocError>
-    ensures { IfOk result (λ found. Finds found.items file.now) }
+    ensures texts { IfOk result (λ found. Finds found.items file.now) }
+    ensures any { IfOk result (λ found. FindsAny found.items file.now) }
 {
     let Ok(tree) = read_tree(alloc, file) else {
         return Err(AllocError);

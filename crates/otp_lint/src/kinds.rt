@@ -1,6 +1,6 @@
 //! Which remark of a kind there is on a child, or on a supervisor.
 
-ghost use Rattle.std.specs.Prelude.{◌≡◌, ◌==◌, not, count_by};
+ghost use Rattle.std.specs.Prelude.{◌≡◌, count_by};
 ghost use Rattle.std.specs.List.{list_any};
 ghost use Rattle.otp_lint.specs.Lint.{alike_id, endless_worker, fan_out, gives_up, is_alone, is_always, is_longer, is_process, is_waited_for, is_worker, long_stop, never_ends, no_restart, starts_as};
 ghost use Rattle.otp_stops.specs.Stops.{is_endless_by};
@@ -160,26 +160,25 @@ fn count_starts(child: &Seen, others: &[Seen]) -> usize
         .count()
 }
 
-/// That the first child of a start has more siblings of it than the intensity bears.
+/// That a child is the first of more siblings of one start than the intensity bears: with it begin these.
 #[tactic(auto, unfolding(crate::specs::Lint::fan_out))]
 pub(crate) fn fan_out(
     flags: SupFlags,
     earlier: &[Seen],
     child: &Seen,
-    later: &[Seen],
+    these: &[Seen],
 ) -> Option<Kind>
-    requires { length later.now ≤ 256 }
-    ensures { result ≡ fan_out flags earlier.now child.now later.now }
+    ensures { result ≡ fan_out flags earlier.now child.now these.now }
 {
-    let count = count_starts(child, later);
+    let count = count_starts(child, these);
     if is_alone(flags.strategy)
         && 1 <= flags.intensity
         && is_process(child)
         && !has_start(child, earlier)
-        && flags.intensity <= count as u64
+        && flags.intensity < count as u64
     {
         Some(Kind::FanOut {
-            children: count + 1,
+            children: count,
             start: child.spec.start,
             intensity: flags.intensity,
         })

@@ -1,6 +1,6 @@
 //! Ids that differ by letters that look the same.
 
-ghost use Rattle.std.specs.Prelude.{◌≡◌, option_copied, option_map};
+ghost use Rattle.std.specs.Prelude.{◌≡◌};
 ghost use Rattle.otp_lint.specs.Lint.{first_alike, look_alike, looks};
 
 use crate::below::Seen;

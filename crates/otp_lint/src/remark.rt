@@ -1,7 +1,5 @@
 //! A remark on a tree.
 
-ghost use Rattle.std.specs.Prelude.{◌≡◌, IfOk};
-
 use otp_reason::Name;
 use std::alloc::{AllocError, Global};
 use std::marker::Model;
@@ -50,6 +48,7 @@ impl Model for Path {
 
 impl Path {
     ghost use Rattle.std.specs.Prelude.{◌≡◌, ◌++◌, [], IfOk};
+    ghost use Rattle.otp_reason.specs.Names.{name_bytes};
     ghost use Rattle.otp_lint.specs.Lint.{child_path};
 
     /// That of the root.

@@ -1,8 +1,8 @@
 //! The remarks on a tree.
 
-ghost use Rattle.std.specs.Prelude.{◌≡◌, ◌+◌, ◌≤◌, ◌++◌, IfOk, OnOk, length, map, slice_get};
-ghost use Rattle.otp_lint.specs.Below.{own_table};
-ghost use Rattle.otp_lint.specs.Lint.{path_at, paths_at, remarks_below, remarks_in};
+ghost use Rattle.std.specs.Prelude.{◌≡◌, ◌+◌, ◌<◌, ◌^◌, ◌++◌, IfOk, OnOk, length, map, slice_get};
+ghost use Rattle.otp_lint.specs.Below.{below_in, own_table, seen_in, table_of};
+ghost use Rattle.otp_lint.specs.Lint.{path_at, paths_at, remarks_below, remarks_in, remarks_on};
 
 use crate::below::{below_in, seen_in};
 use crate::children::put_remarks_on;
@@ -91,7 +91,7 @@ fn put_remarks_of(
     others: &[&TreeSpec],
     out: &mut Remarks,
 ) -> Result<(), AllocError>
-    ensures { OnOk result (out.new ≡ out.old ++ remarks_on number path.now table.now.flags (seen_in (own_table table) (below_in (map own_table others.now)))) }
+    ensures { OnOk result (out.new ≡ out.old ++ remarks_on number path.now table.now.flags (seen_in (own_table table.now) (below_in (map table_of others.now)))) }
 {
     let trees = below_in(alloc, others)?;
     let children = seen_in(alloc, table, trees.as_slice())?;
@@ -107,8 +107,8 @@ fn put_remarks(
     tables: &[&TreeSpec],
     out: &mut Remarks,
 ) -> Result<(), AllocError>
-    requires { number + length tables.now ≤ 2 ^ 63 }
-    ensures { OnOk result (out.new ≡ out.old ++ remarks_below number paths.now (map own_table tables.now)) }
+    requires { number + length tables.now < 2 ^ 64 }
+    ensures { OnOk result (out.new ≡ out.old ++ remarks_below number paths.now (map table_of tables.now)) }
 {
     let [table, others @ ..] = tables else {
         return Ok(());

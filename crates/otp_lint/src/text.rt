@@ -2,8 +2,9 @@
 
 ghost use Rattle.std.specs.Prelude.{◌≡◌, ◌++◌, OnOk};
 ghost use Rattle.otp_lint.specs.Texts.{code_of, ends_text, remark_text, what_text, whom_text};
+ghost use Rattle.otp_lint.specs.declared.remark.Kind.TheVariants as kind;
 
-use crate::remark::{Kind, Path, Remark};
+use crate::remark::{Kind, Remark};
 use otp_reason::Name;
 use otp_text::{write_name, write_number};
 use std::alloc::AllocError;

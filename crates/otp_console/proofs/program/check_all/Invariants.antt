@@ -5,6 +5,6 @@ use Rattle.otp_console.proofs.program.check_all.Given as goal
 
 abbrev pub invariant-loop-name : goal.invariant-loop-name
 invariant-loop-name g l =
-    ChecksEach l.checking.has_starts (λ name. (g.F.TreeFiles.known l.files).holds name.now) (take l.name-index l.names) Done l.ending
+    ChecksEach l.checking (λ name. (g.F.TreeFiles.known l.files).holds name.now) (take l.name-index l.names) Done l.ending
     (g.W.Output.seen l.fn.output)
     (g.W.Output.seen l.output)
