@@ -9,7 +9,7 @@ use otp_spec::{AutoShutdown, ChildSpec, MAX_READING, Restart, Shutdown, SupFlags
 use std::alloc::{AllocError, Global};
 
 /// What is known of the tree of a child.
-#[derive(Clone, Copy, Debug, PartialEq, Eq)]
+#[derive(Clone, Copy)]
 pub(crate) struct Below {
     /// So many milliseconds the stop of its children takes, of those that have a limit.
     pub(crate) stop: u64,
@@ -18,7 +18,7 @@ pub(crate) struct Below {
 }
 
 /// A child, and what is known of its tree, if it has one.
-#[derive(Clone, Copy, Debug, PartialEq, Eq)]
+#[derive(Clone, Copy)]
 pub(crate) struct Seen {
     pub(crate) spec: ChildSpec,
     pub(crate) tree: Option<Below>,
@@ -232,6 +232,17 @@ pub(crate) fn seen_in(
     Ok(seen)
 }
 
+/// Puts trees behind others, but for the first so many.
+fn put_rest(count: usize, trees: &[Below], out: &mut Vec<Below>) -> Result<(), AllocError>
+    ensures { OnOk result (out.new.items ≡ out.old.items ++ drop count trees.now) }
+{
+    if count < trees.len() {
+        out.extend_from_slice(&trees[count..])
+    } else {
+        Ok(())
+    }
+}
+
 /// One tree before others, of which so many are left out.
 fn put_first(
     alloc: Global,
@@ -243,7 +254,7 @@ fn put_first(
 {
     let mut all = Vec::new(alloc);
     all.push(first).map_err(|_| AllocError)?;
-    all.extend_from_slice(&trees[count.min(trees.len())..])?;
+    put_rest(count, trees, &mut all)?;
     Ok(all)
 }
 

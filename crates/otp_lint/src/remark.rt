@@ -5,7 +5,7 @@ use std::alloc::{AllocError, Global};
 use std::marker::Model;
 
 /// What is remarked on a child, or on a supervisor.
-#[derive(Clone, Copy, Debug, PartialEq, Eq)]
+#[derive(Clone, Copy, Debug)]
 pub enum Kind {
     /// The stop of a child may take so many milliseconds, longer than its supervisor's period, which has so many seconds.
     LongStop {
