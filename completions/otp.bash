@@ -9,7 +9,7 @@ _otp() {
         --clock) COMPREPLY=($(compgen -W "milliseconds seconds" -- "$word")); return ;;
     esac
     case $command in
-        check) options="--run --all --json --help" ;;
+        check) options="--run --lint --all --json --help" ;;
         diff) options="--help" ;;
         import) options="--commands --help" ;;
         limits) options="--child --table --each --json --html --help" ;;
@@ -20,7 +20,7 @@ _otp() {
         suggest) options="--child --every --help" ;;
         tree) options="--html --help" ;;
         try) options="--prompt --timeline --quiet --clock --width --json --html --help" ;;
-        help) COMPREPLY=($(compgen -W "check diff import limits replay run shutdown sim suggest tree try script lines" -- "$word")); return ;;
+        help) COMPREPLY=($(compgen -W "check diff import limits replay run shutdown sim suggest tree try script lines otp" -- "$word")); return ;;
     esac
     case $word in
         -*) COMPREPLY=($(compgen -W "$options" -- "$word")) ;;

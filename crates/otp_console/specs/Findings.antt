@@ -76,6 +76,10 @@ said_objects said (first ∷ others) = said_object (said first) ++ next_objects 
 unfoldable pub faults_object : {T : Type 0} → (T → Remarked) → List ℕ → List T → List ℕ
 faults_object said name faults = file_member name ++ codes ", \"faults\": [" ++ said_objects said faults ++ codes "]}\n"
 
+-- the object of a lawful file on whose tree there are remarks
+unfoldable pub remarks_object : {T : Type 0} → (T → Remarked) → List ℕ → List T → List ℕ
+remarks_object said name remarks = file_member name ++ codes ", \"faults\": [], \"remarks\": [" ++ said_objects said remarks ++ codes "]}\n"
+
 -- the object of a lawful file
 unfoldable pub lawful_object : List ℕ → List ℕ
 lawful_object name = file_member name ++ codes ", \"faults\": []}\n"
@@ -92,10 +96,19 @@ unread_object name why = file_member name ++ text_member (codes ", ") (codes "un
 unfoldable pub unread_text : List ℕ → List ℕ → List ℕ
 unread_text shown why = line_text shown None (codes "can't be read: " ++ why)
 
+-- what was found in a file is written in lines
+abbrev pub TellsLines : {T : Type 0} → (T → Remarked) → Bool → List ℕ → List T → List ℕ → Type 0
+TellsLines said has_all name found text = (shown : List ℕ) × (IsShown name shown × (text ≡ some_text said has_all shown found))
+
 -- what is written of a file with these faults: lines, or an object
 abbrev pub TellsFaults : {T : Type 0} → (T → Remarked) → Bool → Bool → List ℕ → List T → List ℕ → Type 0
 TellsFaults said true has_all name faults text = text ≡ faults_object said name faults
-TellsFaults said false has_all name faults text = (shown : List ℕ) × (IsShown name shown × (text ≡ some_text said has_all shown faults))
+TellsFaults said false has_all name faults text = TellsLines said has_all name faults text
+
+-- of one that is lawful, and on whose tree there are these remarks
+abbrev pub TellsRemarks : {T : Type 0} → (T → Remarked) → Bool → Bool → List ℕ → List T → List ℕ → Type 0
+TellsRemarks said true has_all name remarks text = text ≡ remarks_object said name remarks
+TellsRemarks said false has_all name remarks text = TellsLines said has_all name remarks text
 
 -- of one that is lawful
 abbrev pub TellsPlain : Bool → List ℕ → List ℕ → Type 0

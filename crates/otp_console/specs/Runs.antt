@@ -11,6 +11,9 @@ use Rattle.otp_sim.specs.Runs.{Writes}
 use Rattle.otp_sim.specs.Sim.{opened}
 use Rattle.otp_check.specs.Checks.{IsFirstFault, remarked}
 use Rattle.otp_check.specs.declared.finding.Finding.{Finding}
+use Rattle.otp_lint.specs.Found.{Finds, IsPlain}
+use Rattle.otp_lint.specs.Found as lint
+use Rattle.otp_lint.specs.declared.found.LintFinding.{LintFinding}
 use Rattle.otp_roles.specs.declared.fault.PlanFault.{PlanFault}
 use Rattle.otp_starts.specs.Unfit.{HasStarts, IsRunnable}
 use Rattle.otp_starts.specs.Unfit as unfit
@@ -24,7 +27,7 @@ use Rattle.otp_ending.specs.declared.ending.ProgramEnd.TheVariants.{Done, WordsR
 use Rattle.otp_words.specs.declared.words.Checking.{Checking}
 use Rattle.otp_words.specs.declared.words.Command.{Command}
 use Rattle.otp_words.specs.declared.words.Command.TheVariants as command
-use Rattle.otp_console.specs.Findings.{TellsFaults, TellsLawful, TellsUnread}
+use Rattle.otp_console.specs.Findings.{TellsFaults, TellsLawful, TellsRemarks, TellsUnread}
 use Rattle.otp_console.specs.Trees.{TreeRuns}
 use Rattle.otp_console.specs.Used.{Uses, has_remarks}
 
@@ -76,6 +79,11 @@ abbrev pub IsLawfulFor : Bool → List ℕ → Type 0
 IsLawfulFor false file = HasTree file
 IsLawfulFor true file = IsRunnable file
 
+-- where remarks are wanted, there is none on the file's tree
+abbrev pub IsPlainFor : Bool → List ℕ → Type 0
+IsPlainFor false file = Unit {0}
+IsPlainFor true file = IsPlain file
+
 -- what was written of a lawful file
 abbrev pub WroteLawful : Checking → List ℕ → Option (List ℕ) → Option (List ℕ) → Type 0
 WroteLawful checking name old new = (text : List ℕ) × (TellsLawful checking.is_json name text × Appends old new text)
@@ -99,11 +107,25 @@ pub record WroteUnfit (checking : Checking) (name file : List ℕ) (old new : Op
   pub tells : TellsFaults unfit.remarked checking.is_json checking.has_all name (first ∷ others) text
   pub wrote : Appends old new text
 
--- a file of this name was checked, with its starts or without: how that ends says whether it says a tree (which can be run), and
--- what was written is what was found
+-- the file says a tree (which can be run), remarks on it are wanted, and all that there are were written
+pub record WroteRemarks (checking : Checking) (name file : List ℕ) (old new : Option (List ℕ)) : Type 0 where
+  pub lawful : IsLawfulFor checking.has_starts file
+  pub wanted : checking.has_remarks ≡ true
+  pub first : LintFinding
+  pub others : List LintFinding
+  pub finds : Finds (first ∷ others) file
+  pub text : List ℕ
+  pub tells : TellsRemarks lint.remarked checking.is_json checking.has_all name (first ∷ others) text
+  pub wrote : Appends old new text
+
+-- a file of this name was checked, with its starts or without, and with remarks or without: how that ends says whether it says a tree
+-- (which can be run, and on which there is no remark), and what was written is what was found
 abbrev pub IsChecked : Checking → List ℕ → ProgramEnd → List ℕ → Written → Written → Type 0
-IsChecked checking name Done file old new = IsLawfulFor checking.has_starts file × WroteLawful checking name old.bytes new.bytes
-IsChecked checking name FaultsFound file old new = WroteFaults checking name file old.bytes new.bytes ⊎ WroteUnfit checking name file old.bytes new.bytes
+IsChecked checking name Done file old new =
+    IsLawfulFor checking.has_starts file × (IsPlainFor checking.has_remarks file × WroteLawful checking name old.bytes new.bytes)
+IsChecked checking name FaultsFound file old new =
+    WroteFaults checking name file old.bytes new.bytes
+    ⊎ (WroteUnfit checking name file old.bytes new.bytes ⊎ WroteRemarks checking name file old.bytes new.bytes)
 IsChecked checking name OutputFailed file old new = old.failures < new.failures
 IsChecked checking name OutOfMemory file old new = new ≡ old
 IsChecked checking name _ file old new = ⊥

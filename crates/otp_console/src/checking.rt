@@ -1,20 +1,25 @@
 //! `check`: what is wrong in a tree file?
 
 ghost use Rattle.std.specs.Prelude.{◌≡◌, true, IfOk};
-ghost use Rattle.otp_console.specs.Findings.{TellsFaults, TellsLawful, TellsPlain, TellsUnread, TellsWarned, TellsWhy};
-ghost use Rattle.otp_console.specs.Runs.{IsChecked, IsWritten};
+ghost use Rattle.otp_console.specs.Findings.{TellsFaults, TellsLawful, TellsLines, TellsPlain, TellsRemarks, TellsUnread, TellsWarned, TellsWhy};
+ghost use Rattle.otp_console.specs.Runs.{IsChecked, IsLawfulFor, IsPlainFor, IsWritten};
+ghost use Rattle.otp_lint.specs.Found.{remarked};
 ghost use Rattle.otp_ending.specs.declared.ending.ProgramEnd.TheVariants.{Done, FaultsFound, FileNotRead};
 
 use crate::findings::{shown_name, write_line, write_some, write_unread_line};
-use crate::objects::{put_fault_object, put_lawful_object, put_unread_object, put_warned_object};
+use crate::objects::{
+    put_fault_object, put_lawful_object, put_remark_object, put_unread_object, put_warned_object,
+};
 use otp_check::{Remark, check, warning};
 use otp_ending::ProgramEnd;
+use otp_lint::{LintFinding, find_remarks};
 use otp_sim::{Failed, Output, write_all};
 use otp_starts::find_unfit;
 use otp_words::Checking;
 use std::alloc::{AllocError, Global};
 
-/// Writes all that is wrong in a file, a line for each fault, that for which its tree is refused first.
+/// Writes all that is wrong in a file, a line for each fault, that for which its tree is refused first. Of a file in which nothing
+/// is wrong it writes the remarks, where they are wanted.
 pub fn check_file<'a, W: Output>(
     alloc: Global,
     name: &'a str,
@@ -30,7 +35,7 @@ pub fn check_file<'a, W: Output>(
     };
     match findings.as_slice() {
         [] if checking.has_starts => check_starts(alloc, name, file, checking, output),
-        [] => write_lawful(alloc, name, file, checking, output),
+        [] => check_remarks(alloc, name, file, checking, output),
         faults => write_faults(alloc, name, faults, checking, output),
     }
 }
@@ -51,8 +56,32 @@ fn check_starts<'a, W: Output>(
         return ProgramEnd::OutOfMemory;
     };
     match findings.as_slice() {
-        [] => write_lawful(alloc, name, file, checking, output),
+        [] => check_remarks(alloc, name, file, checking, output),
         unfit => write_faults(alloc, name, unfit, checking, output),
+    }
+}
+
+/// Writes the remarks on the tree of a lawful file, where they are wanted and there are some.
+fn check_remarks<'a, W: Output>(
+    alloc: Global,
+    name: &'a str,
+    file: &[u8],
+    checking: Checking,
+    output: &mut W,
+) -> ProgramEnd<'a>
+    requires lawful { IsLawfulFor checking.has_starts file.now }
+    ensures { IsChecked checking name.now result file.now
+        (W.seen output.old) (W.seen output.new) }
+{
+    if !checking.has_remarks {
+        return write_lawful(alloc, name, file, checking, output);
+    }
+    let Ok(remarks) = find_remarks(alloc, file) else {
+        return ProgramEnd::OutOfMemory;
+    };
+    match remarks.as_slice() {
+        [] => write_lawful(alloc, name, file, checking, output),
+        some => write_remarks(alloc, name, some, checking, output),
     }
 }
 
@@ -123,6 +152,21 @@ fn write_lawful<'a, W: Output>(
     }
 }
 
+/// What was found in a file, in lines.
+fn text_of_lines<F: Remark>(
+    alloc: Global,
+    has_all: bool,
+    name: &str,
+    found: &[F],
+) -> Result<Vec<u8>, AllocError>
+    ensures { IfOk result (λ text. TellsLines F.remarked has_all name.now found.now text.items) }
+{
+    let mut text = Vec::new(alloc);
+    let shown = shown_name(alloc, name)?;
+    write_some(has_all, shown.as_slice(), found, &mut text)?;
+    Ok(text)
+}
+
 /// What is written of a file with these faults.
 fn text_of_faults<F: Remark>(
     alloc: Global,
@@ -133,13 +177,29 @@ fn text_of_faults<F: Remark>(
 ) -> Result<Vec<u8>, AllocError>
     ensures { IfOk result (λ text. TellsFaults F.remarked is_json has_all name.now faults.now text.items) }
 {
-    let mut text = Vec::new(alloc);
-    if is_json {
-        put_fault_object(name.as_bytes(), faults, &mut text)?;
-        return Ok(text);
+    if !is_json {
+        return text_of_lines(alloc, has_all, name, faults);
     }
-    let shown = shown_name(alloc, name)?;
-    write_some(has_all, shown.as_slice(), faults, &mut text)?;
+    let mut text = Vec::new(alloc);
+    put_fault_object(name.as_bytes(), faults, &mut text)?;
+    Ok(text)
+}
+
+/// What is written of a lawful file with these remarks on its tree.
+fn text_of_remarks(
+    alloc: Global,
+    is_json: bool,
+    has_all: bool,
+    name: &str,
+    remarks: &[LintFinding],
+) -> Result<Vec<u8>, AllocError>
+    ensures { IfOk result (λ text. TellsRemarks remarked is_json has_all name.now remarks.now text.items) }
+{
+    if !is_json {
+        return text_of_lines(alloc, has_all, name, remarks);
+    }
+    let mut text = Vec::new(alloc);
+    put_remark_object(name.as_bytes(), remarks, &mut text)?;
     Ok(text)
 }
 
@@ -155,6 +215,26 @@ fn write_faults<'a, W: Output, F: Remark>(
         (W.seen output.old) (W.seen output.new) }
 {
     let Ok(text) = text_of_faults(alloc, checking.is_json, checking.has_all, name, faults) else {
+        return ProgramEnd::OutOfMemory;
+    };
+    match write_all(output, text.as_slice()) {
+        Ok(()) => ProgramEnd::FaultsFound,
+        Err(Failed) => ProgramEnd::OutputFailed,
+    }
+}
+
+/// Writes the remarks on the tree of a lawful file.
+fn write_remarks<'a, W: Output>(
+    alloc: Global,
+    name: &'a str,
+    remarks: &[LintFinding],
+    checking: Checking,
+    output: &mut W,
+) -> ProgramEnd<'a>
+    ensures { IsWritten (TellsRemarks remarked checking.is_json checking.has_all name.now remarks.now) FaultsFound result
+        (W.seen output.old) (W.seen output.new) }
+{
+    let Ok(text) = text_of_remarks(alloc, checking.is_json, checking.has_all, name, remarks) else {
         return ProgramEnd::OutOfMemory;
     };
     match write_all(output, text.as_slice()) {

@@ -1,10 +1,10 @@
 //! What `check` finds, as JSON: an object a line for each file, `{"file": NAME, "faults": [{"line": L, "text": TEXT}]}`.
 //!
-//! A line that isn't known is `null`. An object of a lawful file has no faults, and may have a `warning`; that of a file that
-//! can't be read has `unread` in the place of `faults`.
+//! A line that isn't known is `null`. An object of a lawful file has no faults, and may have a `warning`, or `remarks` in the form of
+//! faults; that of a file that can't be read has `unread` in the place of `faults`.
 
 ghost use Rattle.std.specs.Prelude.{◌≡◌, ◌++◌, OnOk};
-ghost use Rattle.otp_console.specs.Findings.{faults_object, file_member, lawful_object, next_object, next_objects, said_object, said_objects, unread_object, warned_object};
+ghost use Rattle.otp_console.specs.Findings.{faults_object, file_member, lawful_object, next_object, next_objects, remarks_object, said_object, said_objects, unread_object, warned_object};
 
 use otp_check::Remark;
 use otp_json::{put_optional, put_text};
@@ -111,5 +111,20 @@ pub(crate) fn put_fault_object<F: Remark>(
     put_file(name, out)?;
     out.extend_from_slice(b", \"faults\": [")?;
     put_faults(faults, out)?;
+    out.extend_from_slice(b"]}\n")
+}
+
+/// Appends the object of a lawful file on whose tree there are remarks.
+#[tactic(auto, unfolding(crate::specs::Findings::remarks_object))]
+pub(crate) fn put_remark_object<F: Remark>(
+    name: &[u8],
+    remarks: &[F],
+    out: &mut Vec<u8>,
+) -> Result<(), AllocError>
+    ensures { OnOk result (out.new.items ≡ out.old.items ++ remarks_object F.remarked name.now remarks.now) }
+{
+    put_file(name, out)?;
+    out.extend_from_slice(b", \"faults\": [], \"remarks\": [")?;
+    put_faults(remarks, out)?;
     out.extend_from_slice(b"]}\n")
 }

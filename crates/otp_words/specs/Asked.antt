@@ -174,7 +174,8 @@ Asks name rows (command.Check files checking) =
     (name ≡ codes "check") × ((all_of (codes "FILE") rows ≡ Some (map (λ file. file.now) files.items))
     × (IsReadOnce files.items
     × (IsFlagOf rows (codes "run") checking.has_starts
-    × (IsFlagOf rows (codes "all") checking.has_all × IsFlagOf rows (codes "json") checking.is_json))))
+    × (IsFlagOf rows (codes "all") checking.has_all × (IsFlagOf rows (codes "json") checking.is_json
+    × IsFlagOf rows (codes "lint") checking.has_remarks)))))
 Asks name rows (command.Run file settings shows) =
     (name ≡ codes "run") × (IsFileOf rows file.now × (first_of (codes "for") rows ≡ None × (AreSettingsOf rows settings × AreShownOf rows shows)))
 Asks name rows (command.Serve file settings serving shows) =

@@ -104,8 +104,8 @@ import_app = with_rule (file_app (codes "import")) (flag_rule (codes "commands")
 
 abbrev pub check_app : App
 check_app =
-    with_rule (with_rule (with_rule (with_rule (new_app (codes "check")) files_rule) (flag_rule (codes "run"))) (flag_rule (codes "all")))
-    (flag_rule (codes "json"))
+    with_rule (with_rule (with_rule (with_rule (with_rule (new_app (codes "check")) files_rule) (flag_rule (codes "run")))
+    (flag_rule (codes "lint"))) (flag_rule (codes "all"))) (flag_rule (codes "json"))
 
 -- the program, before its subcommands are added
 abbrev pub bare_app : App

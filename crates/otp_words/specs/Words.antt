@@ -52,6 +52,7 @@ meant_text meant.Help = codes "there is no such command; did you mean otp help?"
 meant_text meant.Version = codes "there is no such command; did you mean otp --version?"
 meant_text meant.Script = codes "there is no such topic; did you mean otp help script?"
 meant_text meant.Lines = codes "there is no such topic; did you mean otp help lines?"
+meant_text meant.Otp = codes "there is no such topic; did you mean otp help otp?"
 
 -- what is told of a slip
 unfoldable pub slip_text : Slip → List ℕ

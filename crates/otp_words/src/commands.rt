@@ -165,13 +165,14 @@ fn file_command<'a>(
     )
 }
 
-/// `check FILE.. [--run] [--all] [--json]`.
+/// `check FILE.. [--run] [--lint] [--all] [--json]`.
 fn check_command<'a>(alloc: Global) -> Result<clap::Command<'a>, AllocError>
     ensures { IfOk result (λ c. app_of c ≡ check_app) }
 {
     let command = new_command(alloc, "check", CHECK_ABOUT, CHECK_EXAMPLE);
     let command = with_arg(command, files_arg(alloc, FILES_OR_INPUT))?;
     let command = with_arg(command, flag_arg(alloc, "run", STARTS_HELP))?;
+    let command = with_arg(command, flag_arg(alloc, "lint", REMARKS_HELP))?;
     let command = with_arg(command, flag_arg(alloc, "all", ALL_HELP))?;
     with_arg(command, flag_arg(alloc, "json", JSON_HELP))
 }

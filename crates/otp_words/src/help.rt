@@ -145,6 +145,9 @@ pub(crate) const LOG_HELP: &str =
 
 pub(crate) const STARTS_HELP: &str = "Looks at starts too: which of them `otp run` doesn't know";
 
+pub(crate) const REMARKS_HELP: &str =
+    "Remarks on lawful trees too: what may not be meant, as\nan intensity that is too small; status 1 then";
+
 pub(crate) const ALL_HELP: &str = "Tells of all faults of a file, and not of the first 20 alone";
 
 pub(crate) const JSON_HELP: &str = "Writes an object of JSON for each file, a line each";

@@ -44,6 +44,8 @@ pub enum Meant {
     Script,
     /// The topic with the lines of `sim`.
     Lines,
+    /// The topic with what OTP does beyond this.
+    Otp,
 }
 
 impl Slip {
@@ -85,6 +87,7 @@ impl Meant {
             Meant::Version => "there is no such command; did you mean otp --version?",
             Meant::Script => "there is no such topic; did you mean otp help script?",
             Meant::Lines => "there is no such topic; did you mean otp help lines?",
+            Meant::Otp => "there is no such topic; did you mean otp help otp?",
         }
     }
 }
@@ -158,11 +161,13 @@ const COMMANDS: [Known; 19] = [
 ];
 
 /// What `help` explains besides commands.
-const TOPICS: [Known; 4] = [
+const TOPICS: [Known; 6] = [
     ("script", Meant::Script),
     ("scripts", Meant::Script),
     ("lines", Meant::Lines),
     ("events", Meant::Lines),
+    ("otp", Meant::Otp),
+    ("erlang", Meant::Otp),
 ];
 
 /// The commands that `clap` knows, of which each has a help.

@@ -1,5 +1,5 @@
-//! What is explained beside commands: `otp help script` says which lines a script may have, and `otp help lines` which lines `sim`
-//! takes.
+//! What is explained beside commands: `otp help script` says which lines a script may have, `otp help lines` which lines `sim`
+//! takes, and `otp help otp` what OTP does beyond this.
 
 /// The lines of a script of `try`, as docs/FORMATS.md has them.
 pub(crate) const SCRIPT: &str = "\
@@ -72,11 +72,37 @@ Example:
   stop
 ";
 
+/// What OTP does and this doesn't, as docs/OTP.md has it.
+pub(crate) const OTP: &str = "\
+What Erlang/OTP does beyond this:
+
+start functions     {M, F, A} with arguments: `start` is a name, and what it
+                    runs is up to who embeds the core (of otp run: its words)
+answers of a start  {ok, Child, Info}; an init that answers ignore or fails
+names               registered, global and via; which_children has numbers
+distribution        children and calls on other nodes
+code change         release handling, code_change, get_callback_module
+sys                 get_status, suspend, trace; which_children, count_children
+                    and get_childspec are here
+hibernation         of supervisors and workers
+simple_one_for_one  extra arguments of start_child; pids of other children
+reports             progress and supervisor reports: otp run --log tells ends
+links               between workers; a child that unlinks itself
+older forms         tuples of flags and children: otp import reads them
+
+Other than in OTP, a restart is counted by milliseconds (otp try --clock seconds
+counts as OTP does), a child with a tree has shutdown infinity, a dynamic child
+that is gone is not_found to terminate_child, and one whose restart answers
+ignore is removed. A supervisor has at most 256 children, a tree 64 supervisors.
+docs/OTP.md has each rule, and where it stands.
+";
+
 /// The text of the topic that these words ask for.
 pub(crate) fn topic(word: &str) -> Option<&'static str> {
     match word {
         "script" => Some(SCRIPT),
         "lines" => Some(LINES),
+        "otp" => Some(OTP),
         _ => None,
     }
 }
