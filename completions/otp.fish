@@ -13,7 +13,7 @@ complete -c otp -f -n "not __fish_seen_subcommand_from $commands" -a tree -d 'Dr
 complete -c otp -f -n "not __fish_seen_subcommand_from $commands" -a try -d 'Says what a tree does where a script says what goes wrong'
 complete -c otp -f -n "not __fish_seen_subcommand_from $commands" -a help -d 'Says what a command does'
 complete -c otp -n '__fish_seen_subcommand_from check' -l run -d 'Looks at starts too: which of them `otp run` doesn\'t know'
-complete -c otp -n '__fish_seen_subcommand_from check' -l lint -d 'Remarks on lawful trees too: what may not be meant, as an intensity that is too small; status 1 then'
+complete -c otp -n '__fish_seen_subcommand_from check' -l lint -d 'Remarks on lawful trees: what may not be meant, as an intensity that is too small (status 1)'
 complete -c otp -n '__fish_seen_subcommand_from check' -l all -d 'Tells of all faults of a file, and not of the first 20 alone'
 complete -c otp -n '__fish_seen_subcommand_from check' -l json -d 'Writes an object of JSON for each file, a line each'
 complete -c otp -n '__fish_seen_subcommand_from import' -l commands -d 'Writes what each start runs instead: the file of commands of otp-procs'

@@ -7,7 +7,7 @@ pub(crate) const OTP_ABOUT: &str =
     "Supervisors of Erlang/OTP by rules that are proved: try them, and run trees";
 
 pub(crate) const OTP_STATUSES: &str =
-    "Example: otp try examples/storm.toml examples/storm_survived.script\nStatuses: 0 done, 1 a file, its tree or its starts, 2 the words, 3 a line of\nsim, the input or 2^62 events, 4 output or memory, 5 a line of a script, 6 what\na line expects, 7 a run that ran out of turns, or of time to stop, 8 nothing of\na script or a log was played.\nThe formats stand in docs/FORMATS.md; `otp check FILE` explains what is wrong in\na tree file.";
+    "Example: otp try examples/storm.toml examples/storm_survived.script\nStatuses: 0 done, 1 a file, its tree or its starts, 2 the words, 3 a line of\nsim, the input or 2^62 events, 4 output or memory, 5 a line of a script, 6 what\na line expects, 7 a run that ran out of turns, or of time to stop, 8 nothing of\na script or a log was played.\nThe formats stand in docs/FORMATS.md; `otp check FILE` explains what is wrong in\na tree file, `otp help otp` what OTP does beyond this.";
 
 pub(crate) const TRY_ABOUT: &str = "Says what a tree does where a script says what goes wrong";
 
@@ -26,7 +26,7 @@ pub(crate) const FILE_OR_INPUT: &str = "The tree file, in TOML; - is standard in
 pub(crate) const CHECK_ABOUT: &str = "Says all that is wrong in tree files, and where";
 
 pub(crate) const CHECK_EXAMPLE: &str =
-    "Example: otp check examples/storm.toml examples/shop.toml\nA line a fault: FILE:LINE: number, place, what was read, and what to write.\nStatuses: 0 each file says a tree, 1 one says none or can't be read, 2 the\nwords, 4 output or memory.\nFormats: docs/FORMATS.md, under Tree file, and under Checks and pictures.";
+    "Example: otp check examples/storm.toml examples/shop.toml\nA line a fault: FILE:LINE: number, place, what was read, and what to write.\nStatuses: 0 each file says a tree, 1 one says none or can't be read, or with\n--lint there is a remark, 2 the words, 4 output or memory.\nFormats: docs/FORMATS.md, under Tree file, and under Checks and pictures.";
 
 pub(crate) const TREE_ABOUT: &str = "Draws a tree as text";
 
@@ -146,7 +146,7 @@ pub(crate) const LOG_HELP: &str =
 pub(crate) const STARTS_HELP: &str = "Looks at starts too: which of them `otp run` doesn't know";
 
 pub(crate) const REMARKS_HELP: &str =
-    "Remarks on lawful trees too: what may not be meant, as\nan intensity that is too small; status 1 then";
+    "Remarks on lawful trees: what may not be meant, as an\nintensity that is too small (status 1)";
 
 pub(crate) const ALL_HELP: &str = "Tells of all faults of a file, and not of the first 20 alone";
 

@@ -85,8 +85,9 @@ code change         release handling, code_change, get_callback_module
 sys                 get_status, suspend, trace; which_children, count_children
                     and get_childspec are here
 hibernation         of supervisors and workers
-simple_one_for_one  extra arguments of start_child; pids of other children
-reports             progress and supervisor reports: otp run --log tells ends
+simple_one_for_one  extra arguments of start_child; get_childspec by pid
+reports             progress and supervisor reports; otp run --for 1m --log
+                    tells starts and ends
 links               between workers; a child that unlinks itself
 older forms         tuples of flags and children: otp import reads them
 
