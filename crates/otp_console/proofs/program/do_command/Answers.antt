@@ -12,7 +12,7 @@ returns-in-Check-clause-done g c =
     let new : Devices = devices (g.R.Input.seen c.args.input.now) (g.W.Output.seen c.check_all.new.output) in
     subst (λ (command : Command). Does (g.F.TreeFiles.known c.args.files.now) no_trees command c.check_all.result old new) (sym c.in-Check.is) (
       refl,
-      subst (λ (names : List (Bor (List ℕ))). ChecksAll c.in-Check.checking (λ (name : Bor (List ℕ)). (g.F.TreeFiles.known c.args.files.now).holds name.now) names c.check_all.result
+      subst (λ (names : List (Bor (List ℕ))). ChecksAll c.in-Check.checking (λ (name : Bor (List ℕ)). (g.F.TreeFiles.known c.args.files.now).holds name.now) (λ (name : Bor (List ℕ)). name.now) names c.check_all.result
           old.output new.output)
           c.as_slice.ensures.value c.check_all.ensures,
     )
