@@ -1,11 +1,10 @@
 //! Which program wrote a log.
 
-use crate::keys::text_of;
 use crate::objects::message_of;
 use otp_foreign::{Range, byte_of, line_at};
 use otp_logged::{
     behind_word, first_word, from_place, is_at, is_text, line_behind, place_behind, place_of_bytes,
-    read_clock, read_moment, stripped,
+    read_clock, read_moment, stripped, text_of,
 };
 
 /// Which program wrote a log, and how.
