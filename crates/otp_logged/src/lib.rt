@@ -3,6 +3,7 @@
 #![tactic(auto)]
 
 mod ids;
+mod keys;
 mod known;
 mod lines;
 mod moment;
@@ -11,6 +12,7 @@ mod seeking;
 mod work;
 
 pub use ids::Ids;
+pub use keys::{number_of, text_of};
 pub use known::Known;
 pub use lines::line_behind;
 pub use moment::{Moment, Zone, read_clock, read_moment, read_report_moment};

@@ -1,6 +1,6 @@
 //! Why a child has ended, as lines of a replay say it.
 
-use crate::seeking::{is_at, is_text, place_of_bytes};
+use crate::seeking::{from_place, is_at, is_text, place_of_bytes};
 use otp_foreign::{Range, trimmed, write_byte};
 use std::alloc::AllocError;
 
@@ -59,8 +59,11 @@ fn is_word(text: &[u8]) -> bool {
         || is_text(text, b"noproc")
 }
 
-/// Where the text of a reason `{shutdown, TEXT}` stands, if it is one.
+/// Where the text of a reason `{shutdown, TEXT}` stands, or as Elixir has it `shutdown: TEXT`, if it is one.
 fn text_of_shutdown(text: &[u8], range: Range) -> Option<Range> {
+    if is_at(text, range.start, b"shutdown: ") {
+        return Some(from_place(range, range.start.saturating_add(10)));
+    }
     let is_one = is_at(text, range.start, b"{shutdown,")
         || is_at(text, range.start, b"{:shutdown,");
     if !is_one {
@@ -83,7 +86,7 @@ pub fn write_term(text: &[u8], range: Range, out: &mut Vec<u8>) -> Result<(), Al
     match text_of_shutdown(text, term) {
         Some(inner) => {
             out.extend_from_slice(b"shutdown:")?;
-            write_plain(inner.of(text), out)
+            write_plain(without_colon(trimmed(text, inner).of(text)), out)
         }
         None => write_error(b"", word, out),
     }

@@ -59,6 +59,8 @@ pub(crate) struct Counted {
     pub earlier: u64,
     /// What happened after the whole was stopped.
     pub after: u64,
+    /// Lines that a replay would play in a log of its own.
+    pub plain: u64,
 }
 
 /// A log, and what was written for it.
@@ -116,6 +118,7 @@ impl<'a> Work<'a> {
                 left_out: 0,
                 earlier: 0,
                 after: 0,
+                plain: 0,
             },
             number: 1,
             is_put: false,
@@ -154,6 +157,11 @@ impl<'a> Work<'a> {
         write_shown(name.of(self.text), &mut self.remarks)?;
         self.remarks.extend_from_slice(back.as_bytes())?;
         self.remarks.extend_from_slice(b"\n")
+    }
+
+    /// The line that is read is one of a log that a replay takes as it stands.
+    pub fn count_plain(&mut self) {
+        self.counted.plain = self.counted.plain.saturating_add(1);
     }
 
     /// The time of what is written next: none is earlier than the one before.
@@ -322,7 +330,8 @@ fn write_counts(counted: Counted, out: &mut Vec<u8>) -> Result<(), AllocError> {
         " earlier than the one before, and taken as that",
         out,
     )?;
-    write_count(counted.after, " after the stop", out)
+    write_count(counted.after, " after the stop", out)?;
+    write_count(counted.plain, " not played, as of a plain log", out)
 }
 
 /// Appends a number and what it counts, where it isn't 0.

@@ -1,10 +1,9 @@
 //! The log of `otp-procs`, as text and as JSON.
 
-use crate::keys::{number_of, text_of};
 use otp_foreign::{Range, byte_of};
 use otp_logged::{
-    Called, Event, Moment, Work, behind_word, first_word, from_place, is_at, is_text, place_behind,
-    place_of_bytes, read_moment, up_to,
+    Called, Event, Moment, Work, behind_word, first_word, is_at, is_text, number_of,
+    place_of_bytes, read_moment, text_of, up_to,
 };
 use std::alloc::{AllocError, Global};
 

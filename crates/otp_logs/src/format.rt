@@ -1,11 +1,10 @@
 //! Which program wrote a log.
 
-use crate::keys::text_of;
 use crate::objects::message_of;
 use otp_foreign::{Range, byte_of, line_at};
 use otp_logged::{
     behind_word, first_word, from_place, is_at, is_text, line_behind, place_behind, place_of_bytes,
-    read_clock, read_moment, stripped,
+    read_clock, read_moment, stripped, text_of,
 };
 
 /// Which program wrote a log, and how.
@@ -154,19 +153,19 @@ fn is_of_elixir(text: &[u8], rest: Range) -> bool {
     }
 }
 
-/// Whether a replay would play such a line: behind a timestamp of one word or two it begins so.
-pub(crate) fn is_playable(text: &[u8], line: Range) -> bool {
-    let second = behind_word(text, stripped(text, line));
-    is_own_word(first_word(text, second).of(text))
-        || is_own_word(first_word(text, behind_word(text, second)).of(text))
+/// Whether a line reads as one of a log that a replay takes as it stands: behind its time it begins so.
+pub(crate) fn is_plain(text: &[u8], line: Range) -> bool {
+    let words = stripped(text, line);
+    let behind = match read_moment(text, words.start) {
+        Some((_, place)) => stripped(text, from_place(line, place)),
+        None => behind_word(text, words),
+    };
+    is_own_word(first_word(text, behind).of(text))
 }
 
 /// What a line says behind a date and a time.
 fn sign_behind(text: &[u8], rest: Range) -> Sign {
     let words = stripped(text, rest);
-    if is_own_word(first_word(text, words).of(text)) {
-        return Sign::Own;
-    }
     if is_level(text, rest.start) && is_of_supervisord(text, behind_word(text, words)) {
         return Sign::Of(Format::Supervisord);
     }
@@ -195,21 +194,15 @@ fn sign_of(text: &[u8], line: Range) -> Sign {
         b' ' if is_at(text, line.start, b"    supervisor: ") => return Sign::Of(Format::Otp),
         _ => {}
     }
+    if is_plain(text, line) {
+        return Sign::Own;
+    }
     if let Some((_, place)) = read_moment(text, line.start) {
         return sign_behind(text, from_place(line, place));
     }
-    if let Some((_, place)) = read_clock(text, line.start) {
-        return if is_of_elixir(text, from_place(line, place)) {
-            Sign::Of(Format::Elixir)
-        } else {
-            Sign::Nothing
-        };
-    }
-    let second = behind_word(text, stripped(text, line));
-    if is_own_word(first_word(text, second).of(text)) {
-        Sign::Own
-    } else {
-        Sign::Nothing
+    match read_clock(text, line.start) {
+        Some((_, place)) if is_of_elixir(text, from_place(line, place)) => Sign::Of(Format::Elixir),
+        _ => Sign::Nothing,
     }
 }
 

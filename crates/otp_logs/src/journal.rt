@@ -1,10 +1,9 @@
 //! What systemd writes of its services into the journal, as `journalctl -o short-iso` and `-o json` print it.
 
-use crate::keys::text_of;
 use otp_foreign::{Range, number_in};
 use otp_logged::{
     Called, Event, Moment, Work, Zone, from_place, is_at, is_text, place_behind, place_of_bytes,
-    read_moment, up_to, write_error, write_signal, write_status,
+    read_moment, text_of, up_to, write_error, write_signal, write_status,
 };
 use std::alloc::AllocError;
 

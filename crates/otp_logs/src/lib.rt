@@ -9,7 +9,6 @@ mod daemon;
 mod elixir;
 mod format;
 mod journal;
-mod keys;
 mod objects;
 mod otp;
 mod supervisord;

@@ -2,10 +2,9 @@
 //! stands for the end of a line.
 
 use crate::elixir::{Said, take_said};
-use crate::keys::text_of;
 use crate::otp::{self, Report};
 use otp_foreign::Range;
-use otp_logged::{Moment, Work, from_place, is_at, place_of_bytes, read_moment, up_to};
+use otp_logged::{Moment, Work, from_place, is_at, place_of_bytes, read_moment, text_of, up_to};
 use std::alloc::AllocError;
 
 /// The end of a line of a message.

@@ -3,7 +3,7 @@
 ghost use Rattle.std.specs.Prelude.{◌≡◌, ◌==◌, count_by, IfOk, IfSome};
 
 use crate::daemon::{self, Daemon};
-use crate::format::{Format, format_of, is_playable};
+use crate::format::{Format, format_of, is_plain};
 use crate::journal::Journal;
 use crate::{elixir, objects, otp, supervisord};
 use otp_file::TreeSpec;
@@ -122,14 +122,6 @@ fn begin_of(format: Format, text: &[u8]) -> usize {
     begin
 }
 
-/// Writes a line as it stands. A mark comes before one that would be played, since it is none of those that say what happened.
-fn keep_line(work: &mut Work<'_>, line: Range) -> Result<(), AllocError> {
-    if is_playable(work.text, line) {
-        work.lines.extend_from_slice(b"- ")?;
-    }
-    work.lines.extend_from_slice(line.of(work.text))
-}
-
 /// Writes what stands for a line.
 fn put_line(
     reader: &mut Reader,
@@ -142,8 +134,13 @@ fn put_line(
     if is_read {
         reader.take(work, line)?;
     }
-    if keeps_others && !work.is_put {
-        keep_line(work, line)?;
+    if !work.is_put {
+        if is_plain(work.text, line) {
+            // A replay would play it, and another program's log says what happened otherwise.
+            work.count_plain();
+        } else if keeps_others {
+            work.lines.extend_from_slice(line.of(work.text))?;
+        }
     }
     work.number = work.number.saturating_add(1);
     Ok(())

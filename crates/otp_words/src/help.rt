@@ -81,7 +81,7 @@ pub(crate) const REPLAY_EXAMPLE: &str =
 pub(crate) const LOG_FILE_HELP: &str = "The log; - is standard input, up to 1 MiB";
 
 pub(crate) const IDS_HELP: &str =
-    "A file with a line NAME PATH for each name that a log has for a child";
+    "A file with a line NAME PATH for each name that a log\nhas for a child";
 
 pub(crate) const STRICT_HELP: &str = "A child that isn't in the tree gives status 5";
 

@@ -1,7 +1,7 @@
 //! Keys of an object of JSON that stands on a line.
 
+use crate::seeking::{from_place, place_behind, stripped, up_to};
 use otp_foreign::{Range, byte_of};
-use otp_logged::{from_place, place_behind, stripped, up_to};
 
 /// The place behind the blanks that follow a place of a line.
 fn behind_blanks(text: &[u8], line: Range, place: usize) -> usize {
@@ -37,7 +37,7 @@ fn end_of_text(text: &[u8], rest: Range) -> Option<usize> {
 }
 
 /// The text of a key, as it is written.
-pub(crate) fn text_of(text: &[u8], line: Range, key: &[u8]) -> Option<Range> {
+pub fn text_of(text: &[u8], line: Range, key: &[u8]) -> Option<Range> {
     let place = place_of_value(text, line, key)?;
     if byte_of(text, place) != b'"' {
         return None;
@@ -47,7 +47,7 @@ pub(crate) fn text_of(text: &[u8], line: Range, key: &[u8]) -> Option<Range> {
 }
 
 /// The digits that a key has.
-pub(crate) fn number_of(text: &[u8], line: Range, key: &[u8]) -> Option<Range> {
+pub fn number_of(text: &[u8], line: Range, key: &[u8]) -> Option<Range> {
     let place = place_of_value(text, line, key)?;
     let mut end = place;
     for at in place..line.end {
