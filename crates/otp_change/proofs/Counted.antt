@@ -20,13 +20,13 @@ use Rattle.otp_change.specs.Laws.{Spares}
 use Rattle.otp_change.specs.Seats.{added_row, filled, kept_rows, named, respecified, rows_of, seat_of, seated, standing, with_seat, without, Seated}
 
 
-count-cons : (test : Row → Bool) (row : Row) (rows : List Row) → count_by test (row ∷ rows) ≡ cond (test row) 1 0 + count_by test rows
+pub count-cons : (test : Row → Bool) (row : Row) (rows : List Row) → count_by test (row ∷ rows) ≡ cond (test row) 1 0 + count_by test rows
 count-cons test row rows = sum_by-cons (λ (r : Row). cond (test r) 1 0) row rows
 
 count-append : (test : Row → Bool) (xs ys : List Row) → count_by test (xs ++ ys) ≡ count_by test xs + count_by test ys
 count-append test xs ys = sum_by-append (λ (r : Row). cond (test r) 1 0) xs ys
 
-count-push : (test : Row → Bool) (rows : List Row) (row : Row) → count_by test (rows ++ row ∷ []) ≡ count_by test rows + cond (test row) 1 0
+pub count-push : (test : Row → Bool) (rows : List Row) (row : Row) → count_by test (rows ++ row ∷ []) ≡ count_by test rows + cond (test row) 1 0
 count-push test rows row =
     let none : count_by test [] ≡ 0 = refl in
     omega (arith, count-append test rows (row ∷ []), count-cons test row [], none)
@@ -37,10 +37,14 @@ found_count test None = 0
 found_count test (Some row) = cond (test row) 1 0
 
 -- of the children that have seats
-abbrev seat_count : (Row → Bool) → List Seat → ℕ
+abbrev pub seat_count : (Row → Bool) → List Seat → ℕ
 seat_count test [] = 0
 seat_count test (Kept row ∷ seats) = cond (test row) 1 0 + seat_count test seats
 seat_count test (Added _ ∷ seats) = seat_count test seats
+
+-- the test asks for no specification
+abbrev pub IsBlind : (Row → Bool) → Type 0
+IsBlind test = (spec : ChildSpec) (row : Row) → test (respecified spec row) ≡ test row
 
 taken_more : (test : Row → Bool) (b : Bool) (row : Row) (rows : List Row) (found : Option Row) (rest : List Row)
     → count_by test rows ≡ found_count test found + count_by test rest
@@ -55,15 +59,15 @@ taken test id (row ∷ rows) = taken_more test (has_id id row) row rows (named i
 same_one : (a b : Bool) → a ≡ b → ◌≡◌ {A = ℕ} (cond a 1 0) (cond b 1 0)
 same_one a b h = ap (λ (x : Bool). cond {A = ℕ} x 1 0) h
 
-seat_count-push : (test : Row → Bool) → Spares test → (seats : List Seat) (spec : ChildSpec) (found : Option Row)
+seat_count-push : (test : Row → Bool) → IsBlind test → (seats : List Seat) (spec : ChildSpec) (found : Option Row)
     → seat_count test (seats ++ seat_of spec found ∷ []) ≡ seat_count test seats + found_count test found
 seat_count-push test t [] spec None = refl
-seat_count-push test t [] spec (Some row) = omega (arith, same_one (test (respecified spec row)) (test row) (t.blind spec row))
+seat_count-push test t [] spec (Some row) = omega (arith, same_one (test (respecified spec row)) (test row) (t spec row))
 seat_count-push test t (Kept row ∷ seats) spec found = omega (arith, seat_count-push test t seats spec found)
 seat_count-push test t (Added _ ∷ seats) spec found = seat_count-push test t seats spec found
 
 -- whoever has no seat yet is counted too
-all_counted : (test : Row → Bool) → Spares test → (specs : List ChildSpec) (s : Seated)
+pub all_counted : (test : Row → Bool) → IsBlind test → (specs : List ChildSpec) (s : Seated)
     → seat_count test (seated s specs).seats + count_by test (seated s specs).left ≡ seat_count test s.seats + count_by test s.left
 all_counted test t [] s = refl
 all_counted test t (spec ∷ specs) s =
@@ -86,11 +90,11 @@ none_alive test t (row ∷ rows) h =
     (λ (alive : is_undefined row.state ≡ false). absurd (false≢true (sym parts.0 ∙ ap (λ (b : Bool). not b) alive)))
     (cases_Bool (is_undefined row.state))
 
-same_shared : (test : Row → Bool) → Spares test → (specs : List ChildSpec) (row : Row) → test (shared specs row) ≡ test row
+same_shared : (test : Row → Bool) → IsBlind test → (specs : List ChildSpec) (row : Row) → test (shared specs row) ≡ test row
 same_shared test t [] row = refl
-same_shared test t (spec ∷ _) row = t.blind spec row
+same_shared test t (spec ∷ _) row = t spec row
 
-shared_count : (test : Row → Bool) → Spares test → (specs : List ChildSpec) (rows : List Row) → count_by test (map (shared specs) rows) ≡ count_by test rows
+pub shared_count : (test : Row → Bool) → IsBlind test → (specs : List ChildSpec) (rows : List Row) → count_by test (map (shared specs) rows) ≡ count_by test rows
 shared_count test t specs [] = refl
 shared_count test t specs (row ∷ rows) =
     omega (arith, shared_count test t specs rows, count-cons test (shared specs row) (map (shared specs) rows), count-cons test row rows, same_one (test (shared specs row)) (test row) (same_shared test t specs row))
@@ -100,12 +104,12 @@ seats_counted : (test : Row → Bool) → Spares test → (rows : List Row) (spe
 seats_counted test t rows specs h =
     let seats : List Seat = (seated (standing rows) specs).seats in
     let none : count_by test [] ≡ 0 = refl in
-    omega (arith, filled_count test t (kept_rows seats) [] seats, all_counted test t specs (standing rows), none_alive test t (seated (standing rows) specs).left h, none)
+    omega (arith, filled_count test t (kept_rows seats) [] seats, all_counted test t.blind specs (standing rows), none_alive test t (seated (standing rows) specs).left h, none)
 
 counted_by : (b : Bool) (test : Row → Bool) → Spares test → (rows : List Row) (specs plan : List ChildSpec)
     → list_any is_defined (if b then [] else (seated (standing rows) plan).left) ≡ false
     → count_by test (if b then map (shared specs) rows else rows_of (seated (standing rows) plan).seats) ≡ count_by test rows
-counted_by true test t rows specs plan h = shared_count test t specs rows
+counted_by true test t rows specs plan h = shared_count test t.blind specs rows
 counted_by false test t rows specs plan h = seats_counted test t rows plan h
 
 pub children_stay : (flags : SupFlags) (specs : List ChildSpec) (s : State) (test : Row → Bool) → MayChange flags specs s → Spares test

@@ -1,6 +1,7 @@
 -- The children after a change are those of the specifications.
-use Rattle.std.proofs.Common.{◌≡◌, ◌+◌, ◌≤◌, ℕ, Bool, true, false, List, [], ◌∷◌, ◌++◌, Option, None, Some, ap, append-nil, append_assoc, arith, length, length-append, map, map-append, refl, sym, ◌∙◌}
+use Rattle.std.proofs.Common.{◌≡◌, ◌+◌, ◌≤◌, ℕ, Bool, true, false, List, [], ◌∷◌, ◌++◌, Option, None, Some, ap, append-nil, append_assoc, arith, length, length-append, map, refl, true≢false, sym, ◌∙◌}
 use Rattle.std.specs.Prelude.{if◌then◌else◌}
+use Rattle.std.proofs.lemmas.List.{map-append}
 use Rattle.otp_spec.specs.declared.child.ChildSpec.{ChildSpec}
 use Rattle.otp_spec.specs.declared.flags.SupFlags.{SupFlags}
 use Rattle.otp_spec.specs.Flags.{is_simple}
@@ -50,13 +51,13 @@ rows_fit rows specs =
 
 fit_by : (b over : Bool) (rows : List Row) (specs : List ChildSpec) → b ≡ false → over ≡ false
     → map (λ row. row.spec) (if b then map (shared specs) rows else rows_of (seated (standing rows) (if over then [] else specs)).seats) ≡ specs
-fit_by false false rows specs static open = rows_fit rows specs
-fit_by false true rows specs static open = absurd (true≢false open)
-fit_by true over rows specs static open = absurd (true≢false static)
+fit_by false false rows specs static runs = rows_fit rows specs
+fit_by false true rows specs static runs = absurd (true≢false runs)
+fit_by true over rows specs static runs = absurd (true≢false static)
 
 pub children_fit : (flags : SupFlags) (specs : List ChildSpec) (s : State) → is_simple flags.strategy ≡ false → is_over s.phase ≡ false
     → map (λ row. row.spec) (changed flags specs s).rows ≡ specs
-children_fit flags specs s static open = fit_by (is_simple flags.strategy) (is_over s.phase) s.rows specs static open
+children_fit flags specs s static runs = fit_by (is_simple flags.strategy) (is_over s.phase) s.rows specs static runs
 
 filled_length : (used rows : List Row) (seats : List Seat) → length (filled used rows seats) ≡ length rows + length seats
 filled_length used rows [] = omega arith

@@ -45,20 +45,30 @@ no_work : (follows : Option Sequel) → is_none follows ≡ true → follows ≡
 no_work None h = refl
 no_work (Some _) h = absurd (false≢true h)
 
--- what is quiet has no open work, and no children where it doesn't run
-abbrev Rests : State → Type 0
-Rests s = (s.follows ≡ None) × ((not (is_over s.phase) || (length s.rows == 0)) ≡ true)
+none_in : {A : Type 0} (xs : List A) → (length xs == 0) ≡ true → xs ≡ []
+none_in xs h = nil_from_length xs (eqb-true (length xs) 0 h)
 
-rests : (s : State) → is_quiet s ≡ true → Rests s
+-- what is quiet has no open work, nothing waits, and it has no children where it doesn't run
+pub record Rests (s : State) : Type 0 where
+  pub follows : s.follows ≡ None
+  pub stops : s.to_stop ≡ []
+  pub starts : s.to_start ≡ []
+  pub waiting : s.waiting ≡ []
+  pub bare : (not (is_over s.phase) || (length s.rows == 0)) ≡ true
+
+pub rests : (s : State) → is_quiet s ≡ true → Rests s
 rests s h =
-    let one = and_parts (is_none s.follows && (length s.to_stop == 0) && (length s.to_start == 0) && (length s.waiting == 0)) (not (is_over s.phase) || (length s.rows == 0)) h in
-    let two = and_parts (is_none s.follows && (length s.to_stop == 0) && (length s.to_start == 0)) (length s.waiting == 0) one.0 in
-    let three = and_parts (is_none s.follows && (length s.to_stop == 0)) (length s.to_start == 0) two.0 in
-    let four = and_parts (is_none s.follows) (length s.to_stop == 0) three.0 in
-    (no_work s.follows four.0, one.1)
-
-none_there : (rows : List Row) → (length rows == 0) ≡ true → rows ≡ []
-none_there rows h = nil_from_length rows (eqb-true (length rows) 0 h)
+    let four = and_parts (is_none s.follows && (length s.to_stop == 0) && (length s.to_start == 0) && (length s.waiting == 0)) (not (is_over s.phase) || (length s.rows == 0)) h in
+    let three = and_parts (is_none s.follows && (length s.to_stop == 0) && (length s.to_start == 0)) (length s.waiting == 0) four.0 in
+    let two = and_parts (is_none s.follows && (length s.to_stop == 0)) (length s.to_start == 0) three.0 in
+    let one = and_parts (is_none s.follows) (length s.to_stop == 0) two.0 in
+    record {
+      follows = no_work s.follows one.0;
+      stops = none_in s.to_stop one.1;
+      starts = none_in s.to_start two.1;
+      waiting = none_in s.waiting three.1;
+      bare = four.1;
+    }
 
 none_by : (b : Bool) (specs : List ChildSpec) → (if b then map (shared specs) [] else rows_of (seated (standing []) []).seats) ≡ []
 none_by true specs = refl
@@ -69,18 +79,18 @@ none_at b specs rows none = subst (λ (xs : List Row). (if b then map (shared sp
 
 bare : (phase : Phase) (b : Bool) (specs : List ChildSpec) (rows : List Row) → (not (is_over phase) || (length rows == 0)) ≡ true → is_over (phase_after phase) ≡ true
     → (if b then map (shared specs) rows else rows_of (seated (standing rows) (plan_in phase specs)).seats) ≡ []
-bare Unopened b specs rows h over = none_at b specs rows (none_there rows h)
+bare Unopened b specs rows h over = none_at b specs rows (none_in rows h)
 bare (Open _) b specs rows h over = absurd (false≢true over)
-bare (Ended _ _) b specs rows h over = none_at b specs rows (none_there rows h)
+bare (Ended _ _) b specs rows h over = none_at b specs rows (none_in rows h)
 
 pub order_stays : (flags : SupFlags) (specs : List ChildSpec) (s : State) (next : ℕ) → MayChange flags specs s → IsInOrder next s → IsInOrder next (changed flags specs s)
 order_stays flags specs s next may h =
     let rest : Rests s = rests s (no_plan_fault flags specs s may.planned).0 in
     let same : (t : RowState → Bool) → t Undefined ≡ false → rows_in t (changed flags specs s).rows ≡ rows_in t s.rows = λ t none. children_stay flags specs s (row_has t) may (by_state t none) in
-    let few : rows_in is_awaited s.rows ≡ 0 = subst (λ (f : Option Sequel). IsLimited f (rows_in is_awaited s.rows)) rest.0 h.0.0 in (
+    let few : rows_in is_awaited s.rows ≡ 0 = subst (λ (f : Option Sequel). IsLimited f (rows_in is_awaited s.rows)) rest.follows h.0.0 in (
       (same is_awaited refl ∙ few, (λ q. omega arith), (λ _. (refl, refl)), (λ _. refl), (λ _. refl), (λ _. refl)),
       ((λ q. omega (arith, same (has_process q) refl, h.1.0 q)), (λ q above. same (has_process q) refl ∙ h.1.1 q above)),
       (λ end. absurd (false≢true end)),
-      (λ over. bare s.phase (is_simple flags.strategy) specs s.rows rest.1 over),
+      (λ over. bare s.phase (is_simple flags.strategy) specs s.rows rest.bare over),
       (λ stop. absurd (false≢true stop)),
     )

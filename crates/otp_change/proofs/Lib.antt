@@ -4,3 +4,5 @@ pub mod Fitted
 pub mod Kept
 pub mod Refused
 pub mod Resumes
+pub mod Same
+pub mod Slots

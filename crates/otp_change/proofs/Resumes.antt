@@ -1,9 +1,10 @@
 -- A core goes on from a changed checkpoint, where one went on from the checkpoint before.
-use Rattle.std.proofs.Common.{◌≡◌, ◌+◌, ◌-◌, ◌*◌, ◌≤◌, ◌&&◌, ℕ, All, Bool, true, false, List, [], ap, arith, drop, get_or, length, length-drop, length-map, map, nat_le, nat_lt, refl, subst, sym, ◌∙◌, None}
+use Rattle.std.proofs.Common.{◌≡◌, ◌+◌, ◌-◌, ◌*◌, ◌≤◌, ◌&&◌, ℕ, All, Bool, true, false, List, [], ap, arith, drop, get_or, length, length-drop, map, nat_le, nat_lt, refl, subst, sym, ◌∙◌, None}
 use Rattle.std.specs.Prelude.{if◌then◌else◌}
 use Rattle.std.specs.List.{filter}
 use Rattle.std.specs.List.Sorted.{IsNonDecreasing}
 use Rattle.std.proofs.lemmas.Bool.{le-ltb}
+use Rattle.std.proofs.lemmas.List.{length-map}
 use Rattle.std.proofs.lemmas.List.Elements.{All-drop, All-filter}
 use Rattle.std.proofs.lemmas.List.Kept.{IsNonDecreasingBy-filter}
 use Rattle.std.proofs.lemmas.List.Sorted.{IsNonDecreasingBy-drop}
@@ -40,7 +41,7 @@ not_ended Unopened = refl
 not_ended (Open _) = refl
 not_ended (Ended _ _) = refl
 
-few_kept : (count : ℕ) (times : List ℕ) → length (drop (length times - count) times) ≤ count
+pub few_kept : (count : ℕ) (times : List ℕ) → length (drop (length times - count) times) ≤ count
 few_kept count times = omega (arith, length-drop (length times - count) times)
 
 not_crowded : (intensity period : ℕ) (stamps : List ℕ) → length stamps ≤ intensity → is_crowded intensity period stamps ≡ false
@@ -60,7 +61,7 @@ are_restarts flags last stamps phase ordered latest =
       rate = not_crowded flags.intensity flags.period (stamps_after flags last stamps) few ∙ sym (not_ended phase);
     }
 
-plan_length : (over : Bool) (specs : List ChildSpec) → length (if over then [] else specs) ≤ length specs
+pub plan_length : (over : Bool) (specs : List ChildSpec) → length (if over then [] else specs) ≤ length specs
 plan_length true specs = omega arith
 plan_length false specs = omega arith
 
