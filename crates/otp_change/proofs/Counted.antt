@@ -19,7 +19,6 @@ use Rattle.otp_change.specs.Change.{MayChange, changed, is_defined, plan_in, sha
 use Rattle.otp_change.specs.Laws.{Spares}
 use Rattle.otp_change.specs.Seats.{added_row, filled, kept_rows, named, respecified, rows_of, seat_of, seated, standing, with_seat, without, Seated}
 
-
 pub count-cons : (test : Row → Bool) (row : Row) (rows : List Row) → count_by test (row ∷ rows) ≡ cond (test row) 1 0 + count_by test rows
 count-cons test row rows = sum_by-cons (λ (r : Row). cond (test r) 1 0) row rows
 

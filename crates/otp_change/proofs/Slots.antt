@@ -203,8 +203,8 @@ each_below (row ∷ rows) h zero d less =
     ⊎_elim
     (λ (yes : nat_lt row.slot MAX_CHILDREN ≡ true). ltb-true row.slot MAX_CHILDREN yes)
     (λ (no : nat_lt row.slot MAX_CHILDREN ≡ false). absurd (
-      let high : MAX_CHILDREN ≤ row.slot = ltb-false row.slot MAX_CHILDREN no in
-      omega (arith, h row.slot high, count-cons (has_slot row.slot) row rows, one_if (row.slot == row.slot) (eq-eqb row.slot row.slot refl))
+    let high : MAX_CHILDREN ≤ row.slot = ltb-false row.slot MAX_CHILDREN no in
+    omega (arith, h row.slot high, count-cons (has_slot row.slot) row rows, one_if (row.slot == row.slot) (eq-eqb row.slot row.slot refl))
     ))
     (cases_Bool (nat_lt row.slot MAX_CHILDREN))
 each_below (row ∷ rows) h (suc i) d less = each_below rows (λ k high. omega (arith, h k high, count-cons (has_slot k) row rows)) i d (omega (arith, less))

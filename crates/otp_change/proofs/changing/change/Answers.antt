@@ -19,8 +19,8 @@ returns-clause-resumes c =
     let specs : List ChildSpec = c.args.specs.now in
     let planned : plan_fault flags specs (state_in c.args.base.now) ≡ None = sym c.plan_fault.ensures.fault ∙ c.in_default.is in
     λ lawful.
-        resumes flags specs c.args.base.now c.in_ok-new.new c.in_ok-new.ensures.state c.in_ok-new.ensures.counts
-        (c.plan_fault.ensures.lawful c.in_default.is) (no_plan_fault flags specs (state_in c.args.base.now) planned).1 lawful
+    resumes flags specs c.args.base.now c.in_ok-new.new c.in_ok-new.ensures.state c.in_ok-new.ensures.counts
+    (c.plan_fault.ensures.lawful c.in_default.is) (no_plan_fault flags specs (state_in c.args.base.now) planned).1 lawful
 
 pub returns-clause-order : goal.returns-clause-order
 returns-clause-order c =
