@@ -6,7 +6,7 @@ use crate::peer::{Follows, Peer, Stage};
 use std::fmt;
 use std::fs::{self, DirBuilder, File, Permissions};
 use std::io::{self, Write};
-use std::os::fd::AsRawFd;
+use std::os::fd::{AsRawFd, RawFd};
 use std::os::unix::fs::{DirBuilderExt, MetadataExt, PermissionsExt};
 use std::os::unix::net::{UnixListener, UnixStream};
 use std::path::{Path, PathBuf};
@@ -23,6 +23,9 @@ const PAUSE: u64 = 1_000;
 /// At the end clients have so long to read what is left, as long as they read at all.
 const LAST: Duration = Duration::from_secs(1);
 const STEP: Duration = Duration::from_millis(200);
+
+/// The token of the client that waited when the program was replaced.
+pub const LEFT: u64 = 1;
 
 /// The socket's name in its folder.
 const SOCKET: &str = "socket";
@@ -127,7 +130,7 @@ pub struct Control {
     /// Nobody is accepted before this reading.
     paused: u64,
     /// It is locked as long as the daemon lives, also if that is killed.
-    _lock: File,
+    lock: File,
 }
 
 impl Control {
@@ -165,7 +168,26 @@ impl Control {
         let listener = UnixListener::bind(&path).map_err(system)?;
         fs::set_permissions(&path, Permissions::from_mode(0o600)).map_err(system)?;
         listener.set_nonblocking(true).map_err(system)?;
-        Ok(Control { folder: folder.to_path_buf(), listener, clients: Vec::new(), tokens: 0, paused: 0, _lock: lock })
+        Ok(Control { folder: folder.to_path_buf(), listener, clients: Vec::new(), tokens: 0, paused: 0, lock })
+    }
+
+    /// The descriptors of the socket, of the lock, and of a client.
+    pub fn descriptors(&self, token: u64) -> [RawFd; 3] {
+        let client = self.clients.iter().find(|client| client.token == token);
+        [self.listener.as_raw_fd(), self.lock.as_raw_fd(), client.map_or(-1, Peer::descriptor)]
+    }
+
+    /// Goes on with those that an earlier program has left.
+    pub fn left_by(folder: &Path, [socket, lock, client]: [RawFd; 3]) -> Option<Self> {
+        let client = os::left_open(client).map(|fd| Peer::left_by(LEFT, fd.into()));
+        Some(Control {
+            folder: folder.to_path_buf(),
+            listener: os::left_open(socket)?.into(),
+            clients: client.into_iter().collect(),
+            tokens: LEFT,
+            paused: 0,
+            lock: os::left_open(lock)?.into(),
+        })
     }
 
     /// Makes the socket anew where somebody has removed it, or its folder; whether it did.
@@ -338,6 +360,16 @@ impl Control {
     /// Whether somebody follows events.
     pub fn has_event_followers(&self) -> bool {
         self.clients.iter().any(|client| matches!(client.follows, Some(Follows::Events(_))))
+    }
+
+    /// Whoever follows the process of the first path of each follows that of the second one.
+    pub fn rename(&mut self, renamed: &[(String, String)]) {
+        for client in &mut self.clients {
+            let Some(Follows::Process(path)) = &mut client.follows else { continue };
+            if let Some((_, new)) = renamed.iter().find(|(old, _)| old == path) {
+                path.clone_from(new);
+            }
+        }
     }
 
     /// Whoever follows the process of this path gets what it has written.

@@ -7,6 +7,7 @@ use crate::ends::Ending;
 use crate::groups::Groups;
 use crate::keeper::Keeper;
 use crate::live::Live;
+use crate::loading::Sources;
 use crate::log::{Class, Log, Record};
 use crate::mark::Mark;
 use crate::metrics::Tally;
@@ -17,6 +18,8 @@ use crate::output::Source;
 use crate::page::Pages;
 use crate::plan::Plans;
 use crate::proc_files::Process;
+use crate::reload::Reload;
+use crate::reload::shape::Shape;
 use crate::stand_in::Clock;
 use crate::strays;
 use crate::tails::Tails;
@@ -71,6 +74,8 @@ pub(crate) struct Waiter {
     pub path: String,
     /// What is said besides, if it is done.
     pub more: &'static str,
+    /// It is of the reload that is under way.
+    pub is_of_reload: bool,
     /// It was to be a restart, and another client has asked for a stop since.
     pub is_overtaken: bool,
     /// The supervisor that was called.
@@ -88,6 +93,7 @@ impl Waiter {
             then: None,
             path: path.to_string(),
             more: "",
+            is_of_reload: false,
             is_overtaken: false,
             supervisor: SupervisorId::ROOT,
             told_at: None,
@@ -118,11 +124,33 @@ struct Due {
     is_exact: bool,
 }
 
+/// The paths of the supervisors of a tree, and of each those that are its children.
+pub(crate) fn layout_of(tree: &Tree) -> Result<(Vec<String>, Vec<Vec<SupervisorId>>), Fault> {
+    let paths = tree.supervisors().map(|number| tree.path_of(number)).collect::<Result<Vec<_>, _>>()?;
+    let mut nested = vec![Vec::new(); paths.len()];
+    for number in tree.supervisors().skip(1) {
+        let parent = tree.supervisor(number)?.parent;
+        nested[parent.index()].push(number);
+    }
+    Ok((paths, nested))
+}
+
 /// The daemon.
 #[allow(clippy::struct_excessive_bools)] // each is a fact of its own
 pub struct Daemon {
     pub(crate) tree: Counted,
     pub(crate) plans: Plans,
+    /// The files of the run; the tree of them that runs, with its supervisors.
+    pub(crate) sources: Option<Sources>,
+    pub(crate) text: String,
+    pub(crate) shapes: Vec<Shape>,
+    /// The reload that is under way, and whether there was one that has changed the tree.
+    pub(crate) reload: Option<Reload>,
+    pub(crate) has_reloaded: bool,
+    /// It goes on where an earlier program has stopped.
+    pub(crate) is_resumed: bool,
+    /// The paths of those that a reload couldn't start.
+    pub(crate) unstarted: BTreeSet<String>,
     pub(crate) mark: Mark,
     pub(crate) log: Log,
     pub(crate) control: Option<Control>,
@@ -193,15 +221,17 @@ impl Daemon {
         control: Option<Control>,
         signals: OwnedFd,
     ) -> Result<Self, Fault> {
-        let paths = tree.supervisors().map(|number| tree.path_of(number)).collect::<Result<Vec<_>, _>>()?;
-        let mut nested = vec![Vec::new(); paths.len()];
-        for number in tree.supervisors().skip(1) {
-            let parent = tree.supervisor(number)?.parent;
-            nested[parent.index()].push(number);
-        }
+        let (paths, nested) = layout_of(&tree)?;
         Ok(Daemon {
             tree: tree.into(),
             plans,
+            sources: None,
+            text: String::new(),
+            shapes: Vec::new(),
+            reload: None,
+            has_reloaded: false,
+            is_resumed: false,
+            unstarted: BTreeSet::new(),
             mark,
             log,
             control,
@@ -245,13 +275,26 @@ impl Daemon {
         })
     }
 
+    /// A tree that was opened at this reading is the one that runs.
+    pub(crate) fn lay_out(&mut self, tree: Tree) -> Result<(), Fault> {
+        (self.paths, self.nested) = layout_of(&tree)?;
+        self.tree = tree.into();
+        (self.told, self.due) = (self.reading, Due::default());
+        self.seen = vec![Seen::default(); self.paths.len()];
+        self.is_opened = vec![false; self.paths.len()];
+        self.touched = self.tree.supervisors().collect();
+        Ok(())
+    }
+
     /// Runs the tree until its root has ended, and answers the exit status: that of the main process, or how the root has ended.
     pub fn run(mut self) -> u8 {
-        let swept = self.mark.end_left_behind(|| self.grouped());
+        if !self.is_resumed {
+            let swept = self.mark.end_left_behind(|| self.grouped());
+            self.tell_swept(&swept, "a daemon that was killed has left them");
+        }
         if let Some(groups) = &self.groups {
             groups.clear();
         }
-        self.tell_swept(&swept, "a daemon that was killed has left them");
         self.go_on();
         self.keep();
         while self.end.is_none() && !self.is_broken && !self.gives_up() {
@@ -295,6 +338,7 @@ impl Daemon {
         self.take_endings();
         self.take_ends();
         self.take_dues();
+        self.reload_on();
         self.keep();
         self.tell_waiters();
         if !self.watchers.is_empty() {
@@ -356,10 +400,20 @@ impl Daemon {
         let waiters = self.waiters.iter().filter_map(|waiter| waiter.told_at).min();
         let endings = (!self.endings.is_empty()).then_some(now.saturating_add(LOOK));
         let alive = self.manager.as_ref().and_then(Manager::every).map(|_| self.alive_at);
-        let due = [starts, clients, tree, waiters, endings, alive, self.keeper.next_due(), self.kill_until]
-            .into_iter()
-            .flatten()
-            .min()?;
+        let due = [
+            starts,
+            clients,
+            tree,
+            waiters,
+            endings,
+            alive,
+            self.keeper.next_due(),
+            self.kill_until,
+            self.reload_due(),
+        ]
+        .into_iter()
+        .flatten()
+        .min()?;
         Some(Duration::from_millis(due).saturating_sub(self.clock.elapsed()))
     }
 
@@ -412,6 +466,9 @@ impl Daemon {
                     self.untold.push_front(untold);
                     self.wait_for_memory(fault);
                     return;
+                }
+                Err(fault) if untold.waiter.as_ref().is_some_and(|waiter| waiter.is_of_reload) => {
+                    self.reload_answered(Err(&fault.to_string()));
                 }
                 // What a client asks for ends nothing but its own request.
                 Err(fault) => {
@@ -498,6 +555,7 @@ impl Daemon {
         self.log.flush();
         self.end_watchers();
         self.end_lookers();
+        self.end_reload();
         let now = self.now();
         let tokens: BTreeSet<u64> = self.waiters.iter().flat_map(|waiter| waiter.tokens.iter().copied()).collect();
         if let Some(mut control) = self.control.take() {

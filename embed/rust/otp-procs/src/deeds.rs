@@ -48,7 +48,7 @@ impl Daemon {
     }
 
     /// The line of an order for a process.
-    fn order(&mut self, what: &'static str, process: &Process, path: &str) -> Record {
+    pub(crate) fn order(&mut self, what: &'static str, process: &Process, path: &str) -> Record {
         self.touched.insert(process.supervisor);
         let record = Record::new(Class::Order, what).text("path", path);
         record.number("number", process.number.number()).number("supervisor", u64::from(process.supervisor.number()))
@@ -61,7 +61,7 @@ impl Daemon {
         self.order(what, process, &path)
     }
 
-    fn start(&mut self, process: Process) {
+    pub(crate) fn start(&mut self, process: Process) {
         let path = self.path_of(&process);
         if self.clock.is_told() {
             let record = self.order("start", &process, &path);

@@ -2,6 +2,7 @@
 //! templates and instances. The library reads the tree alone, as it stands then; `show` prints that.
 
 use crate::glob;
+use crate::loading::Sources;
 use crate::plan::{self, Plans};
 use crate::split;
 use crate::subset::{self, BadLine, Document, Entry, Place, Table, Value};
@@ -68,6 +69,12 @@ impl Files {
         }
         let commands = commands.unwrap_or(tree).to_path_buf();
         Ok(Files { name: tree.to_path_buf(), tree: split.text, places: split.places, plans, commands })
+    }
+
+    /// Those of a run that goes on.
+    pub fn of_run(sources: &Sources, tree: String, plans: Plans) -> Self {
+        let commands = sources.commands.as_ref().unwrap_or(&sources.tree).clone();
+        Files { name: sources.tree.clone(), tree, places: Vec::new(), plans, commands }
     }
 
     /// The tree file alone, to play a log on: what its children run isn't looked at.

@@ -204,6 +204,11 @@ impl Groups {
         Ok(Groups { root, tree, controllers, _lock: lock })
     }
 
+    /// The folder that was handed to the daemon.
+    pub fn folder(&self) -> &Path {
+        &self.root
+    }
+
     fn has(&self, controller: &str) -> bool {
         self.controllers.contains(&controller)
     }
@@ -219,8 +224,8 @@ impl Groups {
                 hand_on(&at, name);
             }
         }
-        at.push(if id.starts_with('#') { id.to_string() } else { format!("{id}#{number}") });
-        make_folder(&at)?;
+        let name = if id.starts_with('#') { id.to_string() } else { format!("{id}#{number}") };
+        at = own_folder_in(&at, &name)?;
         let group = Group { procs: File::options().write(true).open(at.join("cgroup.procs"))?, folder: at };
         for (file, value, _) in &shares.set {
             fs::write(group.folder.join(file), value)?;
@@ -276,6 +281,20 @@ fn make_folder(folder: &Path) -> io::Result<()> {
     }
 }
 
+/// A folder with this name that nobody else has: numbers begin anew where another tree is read, and a process that goes on has one.
+fn own_folder_in(above: &Path, name: &str) -> io::Result<PathBuf> {
+    let mut count = 0u32;
+    loop {
+        let folder = above.join(if count == 0 { name.to_string() } else { format!("{name}.{count}") });
+        // One that has no process any more is as good as none.
+        let _ = fs::remove_dir(&folder);
+        match fs::create_dir(&folder) {
+            Err(error) if error.kind() == io::ErrorKind::AlreadyExists => count += 1,
+            made => return made.map(|()| folder),
+        }
+    }
+}
+
 /// Does something with each folder below this one and with itself, the innermost first.
 fn each_below(folder: &Path, then: &mut dyn FnMut(&Path)) {
     for entry in fs::read_dir(folder).into_iter().flatten().flatten() {
@@ -316,6 +335,17 @@ pub struct Group {
 }
 
 impl Group {
+    /// That of a process which runs.
+    pub fn left_by(folder: &Path) -> io::Result<Self> {
+        let procs = File::options().write(true).open(folder.join("cgroup.procs"))?;
+        Ok(Group { folder: folder.to_path_buf(), procs })
+    }
+
+    /// Its folder.
+    pub fn folder(&self) -> &Path {
+        &self.folder
+    }
+
     /// By which a process comes into it.
     pub fn descriptor(&self) -> RawFd {
         self.procs.as_raw_fd()
@@ -395,6 +425,18 @@ mod tests {
         let told = shares("pids_max = 7").unwrap().refusal(None).unwrap().to_string();
         assert_eq!(told, "f:3: pids_max wants a control group: run with --cgroup auto, or drop it");
         assert!(shares("").unwrap().refusal(None).is_none());
+    }
+
+    #[test]
+    fn no_two_processes_have_one_folder() {
+        let above = std::env::temp_dir().join(format!("otp-procs-own-group-{}", std::process::id()));
+        fs::create_dir_all(above.join("#3")).unwrap();
+        // An empty one is taken; one that has something in it isn't.
+        assert_eq!(own_folder_in(&above, "#3").unwrap(), above.join("#3"));
+        fs::create_dir_all(above.join("#3").join("x")).unwrap();
+        assert_eq!(own_folder_in(&above, "#3").unwrap(), above.join("#3.1"));
+        assert!(own_folder_in(&above.join("none"), "#3").is_err());
+        fs::remove_dir_all(&above).unwrap();
     }
 
     #[test]

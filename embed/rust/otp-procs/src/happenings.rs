@@ -73,7 +73,7 @@ impl Daemon {
             Some(Err(error)) => format!("; the control socket is gone: {error}"),
             _ => String::new(),
         };
-        format!("{log}{control}; the tree and the commands are read once")
+        format!("{log}{control}; ctl reload reads the tree and the commands anew")
     }
 
     /// The first signal stops. One that comes with it counts as the same: who signals a group and its leader sends two.

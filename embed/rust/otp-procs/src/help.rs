@@ -4,13 +4,15 @@ use crate::near;
 use crate::request;
 
 /// The commands, with their help.
-const COMMANDS: [(&str, &str); 5] = [("run", RUN), ("check", CHECK), ("show", SHOW), ("replay", REPLAY), ("ctl", CTL)];
+const COMMANDS: [(&str, &str); 6] =
+    [("run", RUN), ("check", CHECK), ("diff", DIFF), ("show", SHOW), ("replay", REPLAY), ("ctl", CTL)];
 
 const ALL: &str = "\
 otp-procs: supervises real processes by the rules of OTP's supervisor
 
   otp-procs run TREE [COMMANDS] [--log FILE] [--json] [--control FOLDER | --no-control] [--cgroup auto] [--main PATH]
   otp-procs check TREE [COMMANDS]     are both files as they should be, and the programs there?
+  otp-procs diff TREE [COMMANDS]      what would a reload of the running daemon to these files do?
   otp-procs show TREE                 prints the tree of a file that has commands, too
   otp-procs replay TREE LOG [--run N] does a log (--json) have the orders that the rules give?
   otp-procs ctl [--control FOLDER] [--within TIME] REQUEST
@@ -53,6 +55,20 @@ Says whether both files are as they should be, whether each start word has a tab
 folders are on this machine. Its status: 0 they are; 1 something is wrong; 2 these words are.
 ";
 
+const DIFF: &str = "\
+otp-procs diff TREE [COMMANDS] [--restart] [--control FOLDER | --old TREE [--old-commands COMMANDS]]
+
+Says what a reload would do where the files of the running daemon were these: a line for each child that is stopped,
+restarted or started, and for what changes at once (now) or at the next start (later). Nothing is changed.
+
+  --control FOLDER         that of the daemon, as for ctl
+  --old TREE               compares with this tree, as it stands after its start, and asks no daemon
+  --old-commands COMMANDS  its file of commands, where it hasn't all
+  --restart                as for ctl reload: those that would run otherwise are restarted
+
+Its status: 0; 1 a file is refused, or no daemon answers; 2 these words are.
+";
+
 const SHOW: &str = "\
 otp-procs show TREE
 
@@ -77,7 +93,8 @@ Asks a daemon for something, and prints its answer.
                      /tmp/otp-procs-UID and /run/user/UID/otp-procs where a daemon listens
   --within TIME      how long an answer is waited for: 500ms, 5s, 2m, 1h. Questions (status, which, count, tail)
                      have 10 s; what starts or stops something, and wait, has no end, and says after a while
-                     for what. What was asked isn't taken back.
+                     for what. What was asked isn't taken back. For reload: how long it waits until no child is
+                     starting or stopping.
 
 Its status: 0 it was done; 1 it was refused, or there is no whole answer; 2 these words are wrong; of status PATH 3
 and 4, too. REQUEST is one of:
@@ -97,10 +114,10 @@ pub fn of(command: Option<&str>) -> String {
 pub fn no_command(word: &str) -> String {
     let names = COMMANDS.iter().map(|(name, _)| *name);
     if word.is_empty() {
-        return "say run, check, show, replay or ctl; otp-procs --help tells more".to_string();
+        return "say run, check, diff, show, replay or ctl; otp-procs --help tells more".to_string();
     }
     let near = near::question(word, names);
     format!(
-        "there is no command {word}{near}; there are run, check, show, replay and ctl, and otp-procs --help tells more"
+        "there is no command {word}{near}; there are run, check, diff, show, replay and ctl, and otp-procs --help tells more"
     )
 }

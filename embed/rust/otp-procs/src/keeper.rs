@@ -14,7 +14,7 @@ use otp_supervision::{CallId, ChildState, Name, Note, Phase, Process, Reason, Su
 use std::collections::{BTreeMap, BTreeSet};
 
 /// A supervisor's number, and the id of a child.
-type Key = (SupervisorId, Name);
+pub(crate) type Key = (SupervisorId, Name);
 
 /// A child that fails alone.
 #[derive(Clone, Copy, Debug, Default, PartialEq, Eq)]
@@ -58,6 +58,35 @@ impl Keeper {
     /// A call was answered.
     pub fn is_answered(&mut self, call: CallId) {
         self.calls.remove(&call);
+    }
+
+    /// The children have other supervisors by now, and those that aren't there any more are forgotten. No call is unanswered.
+    pub fn move_to(&mut self, place: impl Fn(Key) -> Option<Key>) {
+        let kept = std::mem::take(&mut self.kept).into_iter();
+        self.kept = kept.filter_map(|(key, kept)| Some((place(key)?, kept))).collect();
+        self.waiting = std::mem::take(&mut self.waiting).into_iter().filter_map(&place).collect();
+        self.forced.clear();
+        self.calls.clear();
+    }
+
+    /// All that fail alone.
+    pub fn all_kept(&self) -> impl Iterator<Item = (Key, Kept)> {
+        self.kept.iter().map(|(key, kept)| (*key, *kept))
+    }
+
+    /// All that wait for others.
+    pub fn all_waiting(&self) -> impl Iterator<Item = Key> {
+        self.waiting.iter().copied()
+    }
+
+    /// Goes on with one that fails alone.
+    pub fn keep_on(&mut self, key: Key, kept: Kept) {
+        self.kept.insert(key, kept);
+    }
+
+    /// Goes on with those that wait.
+    pub fn wait_on(&mut self, waiting: Vec<Key>) {
+        self.waiting.extend(waiting);
     }
 
     /// A client has stopped a child: it is left alone.
@@ -178,7 +207,8 @@ impl Daemon {
 
     /// What is told to the tree already comes first.
     fn may_call(&self) -> bool {
-        !self.is_stopping && self.kill_until.is_none() && self.end.is_none() && self.untold.is_empty()
+        let is_ending = self.is_stopping || self.kill_until.is_some() || self.end.is_some();
+        !is_ending && !self.reload_holds() && self.untold.is_empty()
     }
 
     fn call_due(&mut self) -> usize {
@@ -209,7 +239,7 @@ impl Daemon {
         count
     }
 
-    fn path_at(&self, (supervisor, id): Key) -> String {
+    pub(crate) fn path_at(&self, (supervisor, id): Key) -> String {
         format!("{}{id}", self.paths.get(supervisor.index()).map_or("", String::as_str))
     }
 

@@ -2,6 +2,7 @@
 
 use crate::near;
 use crate::subset::{BadLine, Entry, Place, Table, Value};
+use std::collections::BTreeMap;
 
 /// What other supervisors call something, and what it is called here. Letters count in either case.
 const FOREIGN: [(&str, &str); 44] = [
@@ -60,6 +61,11 @@ impl<'a> Keys<'a> {
     /// Those of this table.
     pub fn of(table: &'a Table) -> Self {
         Keys { table }
+    }
+
+    /// All of them, with their values.
+    pub fn said(&self) -> BTreeMap<String, Value> {
+        self.table.entries.iter().map(|entry| (entry.key.clone(), entry.value.clone())).collect()
     }
 
     /// Where the table begins.

@@ -45,6 +45,16 @@ impl Lines {
         }
     }
 
+    /// What came of a line that isn't whole, and how many pieces of it were told.
+    pub fn left(&self) -> (Vec<u8>, u64) {
+        (self.rest.clone(), self.parts)
+    }
+
+    /// Goes on with that.
+    pub fn left_by(rest: &[u8], parts: u64) -> Self {
+        Lines { rest: rest.to_vec(), parts }
+    }
+
     fn tell_parts(&mut self, tell: &mut dyn FnMut(Line<'_>)) {
         let mut told = 0;
         while without_end(&self.rest[told..]).len() > LONGEST {

@@ -2,6 +2,7 @@
 
 use crate::beginning::Beginning;
 use crate::groups::{Group, Usage};
+use crate::handover::Left;
 use crate::notify::{Ear, News};
 use crate::os::{self, READABLE, Waited};
 use crate::outlet::{Heard, Outlet, Room};
@@ -96,6 +97,59 @@ impl Live {
             beginning: spawned.beginning,
             refused: None,
         }
+    }
+
+    /// One that runs since before the program was replaced.
+    pub fn left_by(left: &Left, process: Process, plan: Rc<Plan>) -> Result<Self, String> {
+        let mut outlets = Vec::new();
+        for outlet in &left.outlets {
+            outlets.extend(Outlet::left_by(outlet, &plan, &left.path, left.pid).map_err(|why| why.text)?);
+        }
+        let ear = left.ear.as_ref().and_then(|(fd, name)| Some(Ear::left_by(os::left_open(*fd)?, name)));
+        let group = left.group.as_deref().map(Group::left_by).transpose().map_err(|error| error.to_string())?;
+        let notify = os::left_open(left.notify).map(PipeReader::from);
+        let spawned = Spawned { pid: left.pid, beginning: None, outlets, notify, group, ear };
+        Ok(Live {
+            stage: Stage::Up(left.since),
+            is_ready: left.is_ready,
+            is_late: left.is_late,
+            is_unwatched: left.is_unwatched,
+            kill_at: left.kill_at,
+            words: left.words.clone(),
+            extended: left.extended,
+            watched_until: left.watched_until,
+            ..Live::new(process, left.path.clone(), plan, spawned, left.since)
+        })
+    }
+
+    /// What is left of it to a later program, if it is up.
+    pub fn left(&self) -> Option<Left> {
+        let Stage::Up(since) = self.stage else { return None };
+        Some(Left {
+            number: self.process.number.number(),
+            path: self.path.clone(),
+            above: None,
+            start: self.process.start.to_string(),
+            pid: self.pid,
+            since,
+            is_ready: self.is_ready,
+            is_late: self.is_late,
+            is_unwatched: self.is_unwatched,
+            kill_at: self.kill_at,
+            extended: self.extended,
+            watched_until: self.watched_until,
+            words: self.words.clone(),
+            notify: self.notify.as_ref().map_or(-1, AsRawFd::as_raw_fd),
+            ear: self.ear.as_ref().map(Ear::left),
+            group: self.group.as_ref().map(|group| group.folder().to_path_buf()),
+            plan: self.plan.said.clone(),
+            outlets: self.outlets.iter().map(Outlet::left).collect(),
+        })
+    }
+
+    /// Something of its output waits that only this program can pass on.
+    pub fn has_unsent(&self) -> bool {
+        self.outlets.iter().any(Outlet::has_unsent)
     }
 
     /// Whether its program has begun.

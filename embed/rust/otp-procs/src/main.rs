@@ -14,6 +14,7 @@ mod env_file;
 mod files;
 mod glob;
 mod groups;
+mod handover;
 mod happenings;
 mod help;
 mod http;
@@ -21,6 +22,7 @@ mod keeper;
 mod keys;
 mod lines;
 mod live;
+mod loading;
 mod log;
 mod mark;
 mod metrics;
@@ -37,6 +39,7 @@ mod plan;
 mod proc_files;
 mod program;
 mod record;
+mod reload;
 mod replay;
 mod request;
 mod requests;
@@ -61,19 +64,20 @@ use crate::control::Control;
 use crate::daemon::Daemon;
 use crate::files::Files;
 use crate::groups::Groups;
+use crate::loading::{Loaded, Sources, fault_of};
 use crate::log::{Class, Log, Record};
 use crate::mark::Mark;
-use crate::needs::Needs;
 use crate::notify::Manager;
-use crate::plan::{Output, Plan, Plans};
+use crate::plan::Plans;
+use crate::reload::steps::{self, Standing};
 use crate::replay::Played;
-use crate::words::{Ctl, Run, Words};
-use otp_supervision::{Fault, Order, Reading, Strategy, Tree};
-use std::collections::BTreeSet;
+use crate::words::{Ctl, Diff, Run, Words};
+use otp_supervision::Tree;
 use std::error::Error;
 use std::fs;
 use std::io::{self, Write};
-use std::path::Path;
+use std::os::fd::OwnedFd;
+use std::path::{Path, PathBuf};
 use std::process::ExitCode;
 
 /// A file is refused, or the daemon can't begin.
@@ -108,6 +112,7 @@ fn serve(words: Words) -> Result<u8, Box<dyn Error>> {
         }
         Words::Run(run) => run_tree(&run),
         Words::Check(tree, commands) => check(&tree, commands.as_deref()).map(|()| 0),
+        Words::Diff(diff) => compare(&diff),
         Words::Show(tree) => {
             io::stdout().write_all(Files::read_tree(&tree)?.tree.as_bytes())?;
             Ok(0)
@@ -121,65 +126,13 @@ fn serve(words: Words) -> Result<u8, Box<dyn Error>> {
     }
 }
 
-/// The start words of the processes that this tree starts, where each start succeeds: the word of a child with a tree starts none.
-/// What the plans say of its children is looked at, too, and by whom each has to wait.
-fn words_run(files: &Files) -> Result<(BTreeSet<String>, Needs), Box<dyn Error>> {
-    let mut tree = files.open()?;
-    let mut words = BTreeSet::new();
-    take_starts(&mut tree, &mut words)?;
-    let needs = Needs::of(&mut tree, &files.plans)?;
-    for number in tree.supervisors() {
-        if tree.supervisor(number)?.strategy == Strategy::SimpleOneForOne {
-            tree.start_dynamic(Reading::ZERO, number)?;
-        }
-    }
-    take_starts(&mut tree, &mut words)?;
-    Ok((words, needs))
-}
-
-fn take_starts(tree: &mut Tree, words: &mut BTreeSet<String>) -> Result<(), Fault> {
-    while let Some(order) = tree.next_order()? {
-        let Order::Start(process) = order else { continue };
-        tree.up(Reading::ZERO, &process)?;
-        words.insert(process.start.to_string());
-    }
-    Ok(())
-}
-
-/// The start words for which the file of commands has no table.
-fn lacking(words: &BTreeSet<String>, plans: &Plans) -> Vec<String> {
-    words.iter().filter(|word| !plans.contains_key(*word)).cloned().collect()
-}
-
-/// What is missing on this machine now that the plan of a start word needs. A start would fail by it.
-fn fault_of(word: &str, plan: &Plan) -> Option<String> {
-    if let Some(folder) = plan.folder.as_ref().filter(|folder| !folder.is_dir()) {
-        return Some(format!("[{word}] there is no folder {}", folder.display()));
-    }
-    for (output, key) in [(Some(&plan.output), "output_file"), (plan.errors.as_ref(), "errors_file")] {
-        let Some(Output::File(file, _)) = output else { continue };
-        let folder = file.parent().filter(|folder| !folder.as_os_str().is_empty());
-        if file.is_dir() || folder.is_some_and(|folder| !folder.is_dir()) {
-            return Some(format!("[{word}] there can be no {key} {}", file.display()));
-        }
-    }
-    if let Some((file, may_be_missing)) = &plan.env_file
-        && (!*may_be_missing || file.exists())
-        && let Err(text) = env_file::read(file)
-    {
-        return Some(format!("[{word}] env_file {text}"));
-    }
-    (!program::can_be_found(plan)).then(|| format!("[{word}] there is no program {}", plan.command[0]))
-}
-
 fn check(tree: &Path, commands: Option<&Path>) -> Result<(), Box<dyn Error>> {
-    let files = Files::read(tree, commands)?;
-    let (words, _) = words_run(&files)?;
-    let lacking = lacking(&words, &files.plans);
-    let name = files.commands.display();
-    if !lacking.is_empty() {
-        return Err(no_tables(&files.commands, &lacking).into());
+    let loaded = Loaded::read(tree, commands)?;
+    if let Some(lacking) = loaded.lacking() {
+        return Err(lacking.into());
     }
+    let Loaded { files, words, .. } = loaded;
+    let name = files.commands.display();
     let faults: Vec<String> = files.plans.iter().filter_map(|(word, plan)| fault_of(word, plan)).collect();
     if !faults.is_empty() {
         return Err(format!("{name}: {}", faults.join("; ")).into());
@@ -191,9 +144,31 @@ fn check(tree: &Path, commands: Option<&Path>) -> Result<(), Box<dyn Error>> {
     Ok(())
 }
 
+/// Tells what a reload would do: asks the daemon, or compares with other files.
+fn compare(diff: &Diff) -> Result<u8, Box<dyn Error>> {
+    let Some(old) = &diff.old else {
+        let whole = |file: &PathBuf| std::path::absolute(file).map(|file| request::word_of(&file));
+        let mut line = format!("reload --dry-run{}", if diff.restarts { " --restart" } else { "" });
+        line.push_str(&format!(" --files {}", whole(&diff.new.tree)?));
+        if let Some(commands) = &diff.new.commands {
+            line.push_str(&format!(" {}", whole(commands)?));
+        }
+        return Ok(client::ask(diff.folder.as_deref(), &line, false, Some(words::QUESTION))?);
+    };
+    let read = |files: &Sources| -> Result<Loaded, Box<dyn Error>> {
+        let loaded = Loaded::read(&files.tree, files.commands.as_deref())?;
+        loaded.lacking().map_or(Ok(loaded), |lacking| Err(lacking.into()))
+    };
+    let (old, new) = (read(old)?, read(&diff.new)?);
+    let standing = Standing::of_new(&old.shapes);
+    let steps = steps::steps_between(old.side(), new.side(), &standing, diff.restarts)
+        .map_err(|text| format!("{}: {text}", diff.new.tree.display()))?;
+    io::stdout().write_all(steps.text().as_bytes())?;
+    Ok(0)
+}
+
 /// Plays a run of the log again: the one of this number, or else the last.
 fn replay_log(tree: &Path, log: &Path, number: Option<usize>) -> Result<(), Box<dyn Error>> {
-    let mut tree = Files::read_tree(tree)?.open()?;
     let (text, name) = (files::text_up_to(log, MOST_LOG)?, log.display());
     let runs = replay::runs_of(&text);
     let number = number.unwrap_or(runs.len());
@@ -205,11 +180,20 @@ fn replay_log(tree: &Path, log: &Path, number: Option<usize>) -> Result<(), Box<
         1 => String::new(),
         count => format!("run {number} of {count} (lines {first} to {last}): "),
     };
+    let mut tree = match run.first_tree() {
+        Some(text) => Tree::open(text)?,
+        None => Files::read_tree(tree)?.open()?,
+    };
     let played = replay::replay(&mut tree, run).map_err(|differs| format!("{name}: {which}{differs}"))?;
     let torn = if played.is_torn { "; its last line is cut off" } else { "" };
     let end = if played.has_ended { "" } else { "; the run has no end" };
-    let Played { events, orders, .. } = played;
-    writeln!(io::stdout(), "{which}{events} events and {orders} orders, as the rules give them{torn}{end}")?;
+    let Played { events, orders, reloads, .. } = played;
+    let over = match reloads {
+        0 => String::new(),
+        1 => "; the trees before and after a reload are those of the log".to_string(),
+        count => format!("; the trees before and after {count} reloads are those of the log"),
+    };
+    writeln!(io::stdout(), "{which}{events} events and {orders} orders, as the rules give them{over}{torn}{end}")?;
     Ok(())
 }
 
@@ -229,46 +213,80 @@ fn began(run: &Run) -> Record {
         .number("uptime_ms", (uptime * 1000.0) as u64)
 }
 
-fn no_tables(commands: &Path, lacking: &[String]) -> String {
-    format!("{} has no table for {}; write [{}] and its command", commands.display(), lacking.join(", "), lacking[0])
-}
-
 fn run_tree(run: &Run) -> Result<u8, Box<dyn Error>> {
-    let files = Files::read(&run.tree, run.commands.as_deref())?;
-    let (words, needs) = words_run(&files)?;
-    if let Some(path) = run.main.as_ref().filter(|path| !needs.is_worker(path)) {
-        return Err(
-            format!("--main {path}: there is no such child with a process; otp-procs ctl status prints all").into()
-        );
+    if let Some((fd, is_check)) = run.take_over {
+        return take_over(run, fd, is_check);
     }
-    let lacking = lacking(&words, &files.plans);
-    if !lacking.is_empty() {
-        return Err(no_tables(&files.commands, &lacking).into());
+    let loaded = Loaded::read(&run.tree, run.commands.as_deref())?;
+    if let Some(lacking) = loaded.refusal_of_files(run.main.as_deref()) {
+        return Err(lacking.into());
     }
-    let (tree, plans) = (files.open()?, files.plans);
+    let tree = loaded.files.open()?;
     let groups = run.cgroup.as_ref().map(Groups::open).transpose()?;
-    if let Some(bad) = plans.values().find_map(|plan| plan.who.refusal().or(plan.shares.refusal(groups.as_ref()))) {
+    if let Some(bad) = loaded.refusal_by(groups.as_ref()) {
         return Err(bad.into());
     }
+    let (_reserved, signals) = set_up()?;
+    let control = run.control.as_deref().map(Control::open).transpose()?;
+    let (mut log, mark) = (log_of(run)?, mark_of(run)?);
+    log.tell(0, &began(run));
+    let Loaded { files, needs, shapes, .. } = loaded;
+    let mut daemon = Daemon::new(tree, files.plans, mark, log, control, signals)?;
+    (daemon.text, daemon.shapes) = (files.tree, shapes);
+    daemon.groups = groups;
+    daemon.keeper.after = needs.after;
+    tell_of_run(&mut daemon, run);
+    Ok(daemon.run())
+}
+
+/// What holds for the process itself: which descriptors and signals it has, and that it adopts orphans.
+fn set_up() -> Result<(Vec<fs::File>, OwnedFd), String> {
     os::keep_descriptors()
         .map_err(|error| format!("/proc/self/fd can't be read, by which descriptors are kept: {error}"))?;
     os::raise_descriptors().map_err(|error| format!("the limit of descriptors can't be raised: {error}"))?;
-    let _reserved = os::reserve_descriptors().map_err(|error| format!("/dev/null can't be opened: {error}"))?;
+    let reserved = os::reserve_descriptors().map_err(|error| format!("/dev/null can't be opened: {error}"))?;
     let signals =
         os::signals_as_descriptor().map_err(|error| format!("there is no descriptor for signals: {error}"))?;
     os::adopt_orphans().map_err(|error| format!("orphans can't be adopted: {error}"))?;
-    let control = run.control.as_deref().map(Control::open).transpose()?;
-    let mut log = Log::open(run.log.as_deref(), run.rotation, run.is_json)
-        .map_err(|error| format!("the log can't be opened: {error}"))?;
+    Ok((reserved, signals))
+}
+
+fn log_of(run: &Run) -> Result<Log, String> {
+    Log::open(run.log.as_deref(), run.rotation, run.is_json)
+        .map_err(|error| format!("the log can't be opened: {error}"))
+}
+
+fn mark_of(run: &Run) -> Result<Mark, String> {
     let place = run.control.as_ref().unwrap_or(&run.tree);
-    let mark = Mark::new(place).map_err(|error| format!("{}: {error}", place.display()))?;
-    log.tell(0, &began(run));
-    let mut daemon = Daemon::new(tree, plans, mark, log, control, signals)?;
-    daemon.groups = groups;
+    Mark::new(place).map_err(|error| format!("{}: {error}", place.display()))
+}
+
+/// The daemon is told what its words say.
+fn tell_of_run(daemon: &mut Daemon, run: &Run) {
     daemon.manager = Manager::of_environment();
     daemon.main = run.main.as_ref().map(|path| path.trim_start_matches('/').to_string());
-    daemon.keeper.after = needs.after;
+    daemon.sources = Some(run.sources());
     daemon.pages.title = run.tree.file_name().unwrap_or(run.tree.as_os_str()).to_string_lossy().into_owned();
+}
+
+/// Goes on where the program has stopped that this one replaces; or only reads what that has left.
+fn take_over(run: &Run, fd: i32, is_check: bool) -> Result<u8, Box<dyn Error>> {
+    let resumed = handover::resume::read(fd, &run.sources())?;
+    if let Some(text) = resumed.loaded.refusal_of_files(run.main.as_deref()) {
+        return Err(text.into());
+    }
+    if is_check {
+        return Ok(0);
+    }
+    let (_reserved, signals) = set_up()?;
+    let control = run.control.as_deref().zip(resumed.control());
+    let control = control.and_then(|(folder, descriptors)| Control::left_by(folder, descriptors));
+    let groups = resumed.cgroup().map(|folder| Groups::open(&groups::Wanted::Folder(folder))).transpose()?;
+    let (tree, plans) = (resumed.loaded.files.open()?, resumed.loaded.files.plans.clone());
+    let mut daemon = Daemon::new(tree, plans, mark_of(run)?, log_of(run)?, control, signals)?;
+    daemon.groups = groups;
+    tell_of_run(&mut daemon, run);
+    daemon.resume(resumed)?;
     Ok(daemon.run())
 }
 

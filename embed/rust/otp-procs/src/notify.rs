@@ -4,7 +4,7 @@
 use crate::os::{self, READABLE, Waited};
 use std::env;
 use std::io;
-use std::os::fd::AsRawFd;
+use std::os::fd::{AsRawFd, OwnedFd, RawFd};
 use std::os::linux::net::SocketAddrExt;
 use std::os::unix::net::{SocketAddr, UnixDatagram};
 use std::sync::atomic::{AtomicU64, Ordering};
@@ -82,6 +82,16 @@ pub struct Ear {
 
 static EARS: AtomicU64 = AtomicU64::new(0);
 
+/// The number of the next one.
+pub fn ears() -> u64 {
+    EARS.load(Ordering::Relaxed)
+}
+
+/// The next one has this number, as those below are taken.
+pub fn begin_ears_at(number: u64) {
+    EARS.store(number, Ordering::Relaxed);
+}
+
 impl Ear {
     /// A new one, which is no file: its name is gone with it.
     pub fn new() -> io::Result<Self> {
@@ -91,6 +101,16 @@ impl Ear {
         socket.set_nonblocking(true)?;
         os::pass_credentials(&socket)?;
         Ok(Ear { socket, name })
+    }
+
+    /// One that an earlier program has left open.
+    pub fn left_by(fd: OwnedFd, name: &str) -> Self {
+        Ear { socket: fd.into(), name: name.to_string() }
+    }
+
+    /// What is left of it to a later program.
+    pub fn left(&self) -> (RawFd, String) {
+        (self.socket.as_raw_fd(), self.name.clone())
     }
 
     /// What `NOTIFY_SOCKET` is in the process.

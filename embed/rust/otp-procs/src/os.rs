@@ -1,7 +1,7 @@
 //! The calls of Linux that the standard library lacks, each behind a safe function. All `unsafe` of this program is here.
 #![allow(unsafe_code)]
 
-use std::ffi::{c_int, c_void};
+use std::ffi::{CStr, CString, c_char, c_int, c_void};
 use std::fs::File;
 use std::io::{self, Read};
 use std::os::fd::{AsRawFd, BorrowedFd, FromRawFd, OwnedFd, RawFd};
@@ -87,6 +87,8 @@ const P_ALL: c_int = 0;
 const WNOHANG: c_int = 1;
 const WEXITED: c_int = 4;
 const WNOWAIT: c_int = 0x0100_0000;
+const CLOCK_MONOTONIC: c_int = 1;
+const MFD_CLOEXEC: u32 = 1;
 const RLIMIT_NOFILE: c_int = 7;
 const SOL_SOCKET: c_int = 1;
 const SO_PEERCRED: c_int = 17;
@@ -174,10 +176,21 @@ unsafe extern "C" {
     fn geteuid() -> u32;
     fn umask(mask: u32) -> u32;
     fn getppid() -> c_int;
+    fn memfd_create(name: *const c_char, flags: u32) -> c_int;
+    fn execv(path: *const c_char, words: *const *const c_char) -> c_int;
+    fn clock_gettime(clock: c_int, time: *mut [i64; 2]) -> c_int;
 }
 
 fn checked(answer: c_int) -> io::Result<c_int> {
     if answer < 0 { Err(io::Error::last_os_error()) } else { Ok(answer) }
+}
+
+/// Microseconds of the system's monotonic clock, as a manager wants them.
+pub fn monotonic_microseconds() -> u64 {
+    let mut time = [0; 2];
+    // SAFETY: on 64 bits a `timespec` is two such numbers, and these are this function's own.
+    let answer = unsafe { clock_gettime(CLOCK_MONOTONIC, &raw mut time) };
+    if answer == 0 { (time[0] * 1_000_000 + time[1] / 1_000) as u64 } else { 0 }
 }
 
 fn set_of(signals: &[c_int]) -> SignalSet {
@@ -408,6 +421,45 @@ pub fn keep_descriptors() -> io::Result<()> {
         }
     }
     Ok(())
+}
+
+/// A file that is in memory alone.
+pub fn memory_file() -> io::Result<File> {
+    // SAFETY: the name ends with NUL; the descriptor that comes back is nobody else's.
+    unsafe { Ok(File::from_raw_fd(checked(memfd_create(c"otp-procs".as_ptr(), MFD_CLOEXEC))?)) }
+}
+
+/// Whether a descriptor stays open where the program is replaced.
+pub fn stays_open(fd: RawFd, stays: bool) {
+    // SAFETY: this command takes a number; a descriptor that isn't open is refused.
+    unsafe {
+        fcntl(fd, F_SETFD, if stays { 0 } else { FD_CLOEXEC });
+    }
+}
+
+/// A descriptor that an earlier program has left open for this one. It is taken once.
+pub fn left_open(fd: RawFd) -> Option<OwnedFd> {
+    // SAFETY: it is open, as its flags can be read, and was so when this program began, which takes each that was left once.
+    let owned = unsafe { (fd > RESERVED && fcntl(fd, F_GETFD) >= 0).then(|| OwnedFd::from_raw_fd(fd)) };
+    stays_open(fd, false);
+    owned
+}
+
+/// Replaces the program. Blocked signals stay blocked, so that none is lost. It comes back only to say why that couldn't be done.
+pub fn exec(program: &CStr, words: &[CString]) -> io::Error {
+    let mut pointers: Vec<*const c_char> = words.iter().map(|word| word.as_ptr()).collect();
+    pointers.push(std::ptr::null());
+    // SAFETY: each word ends with NUL, and the list with a null pointer.
+    unsafe { execv(program.as_ptr(), pointers.as_ptr()) };
+    io::Error::last_os_error()
+}
+
+/// The limit of descriptors is what it was when the program began: so a program that replaces it finds that.
+pub fn lower_descriptors() {
+    if let Some(limit) = DESCRIPTORS.get() {
+        // SAFETY: `limit` has the form of `struct rlimit`.
+        unsafe { setrlimit(RLIMIT_NOFILE, std::ptr::from_ref(limit)) };
+    }
 }
 
 /// The greatest number that a descriptor may get in a child.

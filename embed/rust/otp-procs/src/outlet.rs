@@ -1,8 +1,9 @@
 //! The output of a process, where the daemon reads it: lines for the log, and bytes that are passed on.
 
+use crate::handover::LeftOutlet;
 use crate::lines::{Line, Lines, Search};
 use crate::os::{self, READABLE, Waited};
-use crate::plan::{Output, Plan};
+use crate::plan::{Output, Plan, Ready};
 use crate::sink::Sink;
 use crate::socket::Socket;
 use crate::spawn::{NotStarted, no_output, open_output};
@@ -106,6 +107,41 @@ impl Outlet {
             unwritten: Vec::new(),
             lost: None,
         })
+    }
+
+    /// One that an earlier program has left open.
+    pub fn left_by(left: &LeftOutlet, plan: &Plan, path: &str, pid: i32) -> Result<Option<Self>, NotStarted> {
+        let (stream, own) =
+            if left.is_errors { (Stream::Errors, plan.errors.as_ref()) } else { (Stream::Output, Some(&plan.output)) };
+        let (Some(output), Some(fd)) = (own, os::left_open(left.pipe)) else { return Ok(None) };
+        let wanted = match &plan.ready {
+            Ready::Line(text) if left.is_searching => Some(text.as_str()),
+            _ => None,
+        };
+        let outlet = Outlet::new(fd.into(), stream, output, path, wanted)?;
+        let lines = Lines::left_by(&left.rest, left.parts);
+        let mut outlet = Outlet { lines, unwritten: left.unwritten.clone(), ..outlet };
+        outlet.set_pid(pid);
+        Ok(Some(outlet))
+    }
+
+    /// What is left of it to a later program.
+    pub fn left(&self) -> LeftOutlet {
+        let (rest, parts) = self.lines.left();
+        LeftOutlet {
+            is_errors: self.stream == Stream::Errors,
+            pipe: self.pipe.as_ref().map_or(-1, AsRawFd::as_raw_fd),
+            is_searching: self.search.is_some(),
+            rest,
+            parts,
+            unwritten: self.unwritten.clone(),
+        }
+    }
+
+    /// Messages wait that only this program can send, or bytes of which the pipe is closed.
+    pub fn has_unsent(&self) -> bool {
+        matches!(&self.target, Target::Socket(socket) if socket.unsent() > 0)
+            || (self.pipe.is_none() && !self.unwritten.is_empty())
     }
 
     /// The process's number in the system, for messages that have it.

@@ -7,7 +7,7 @@ use crate::control::{Answered, Spoken};
 use crate::http::{self, Head, Status};
 use crate::os::{READABLE, WRITABLE, Waited};
 use std::io::{self, Read, Write};
-use std::os::fd::AsRawFd;
+use std::os::fd::{AsRawFd, RawFd};
 use std::os::unix::net::UnixStream;
 
 /// A client has so many milliseconds to say what it wants, and between two reads of its answer.
@@ -88,6 +88,16 @@ impl Peer {
             busy,
             speaks: Speaks::Lines,
         }
+    }
+
+    /// One that waits for an answer since before the program was replaced.
+    pub fn left_by(token: u64, stream: UnixStream) -> Self {
+        Peer { stage: Stage::Waiting, until: None, ..Peer::new(token, stream, None, 0) }
+    }
+
+    /// Its descriptor.
+    pub fn descriptor(&self) -> RawFd {
+        self.stream.as_raw_fd()
     }
 
     /// What is waited for.

@@ -8,7 +8,7 @@ use crate::socket::Form;
 use crate::subset::{BadLine, Entry, Place, Table, Value};
 use crate::who::{Who, value_of};
 use crate::words::time_of;
-use std::collections::BTreeMap;
+use std::collections::{BTreeMap, BTreeSet};
 use std::path::PathBuf;
 use std::rc::Rc;
 
@@ -176,9 +176,40 @@ pub struct Plan {
     pub signal: (&'static str, i32),
     /// Who gets that signal.
     pub signal_to: SignalTo,
+    /// Where its table begins.
+    pub place: Place,
+    /// Its keys as the files have them, those of its template among them.
+    pub said: BTreeMap<String, Value>,
 }
 
+/// Keys that count at once for a process that runs; the others are of its start.
+pub const AT_ONCE: [&str; 5] = ["after", "restart_after", "restart_always", "give_up_after", "on_give_up"];
+
 impl Plan {
+    /// The keys that differ in another plan, or stand in one of them alone.
+    pub fn changes(&self, other: &Plan) -> BTreeSet<String> {
+        let keys = self.said.keys().chain(other.said.keys());
+        keys.filter(|key| self.said.get(*key) != other.said.get(*key)).cloned().collect()
+    }
+
+    /// Whether a process of this plan runs otherwise than one of another plan would.
+    pub fn runs_otherwise(&self, other: &Plan) -> bool {
+        self.changes(other).iter().any(|key| !AT_ONCE.contains(&key.as_str()))
+    }
+
+    /// The plan of a process that goes on, with what counts at once of a newer one.
+    pub fn at_once(&self, newer: &Plan) -> Plan {
+        let is_late = |(key, _): &(&String, &Value)| !AT_ONCE.contains(&key.as_str());
+        let said = self.said.iter().filter(is_late).chain(newer.said.iter().filter(|entry| !is_late(entry)));
+        Plan {
+            after: newer.after.clone(),
+            retry: newer.retry,
+            retry_place: newer.retry_place.clone(),
+            said: said.map(|(key, value)| (key.clone(), value.clone())).collect(),
+            ..self.clone()
+        }
+    }
+
     /// Whether the daemon reads what a process writes.
     pub fn is_read(&self) -> bool {
         let is_piped = |output: &Output| matches!(output, Output::Log | Output::Socket(..) | Output::File(_, Some(_)));
@@ -208,6 +239,15 @@ pub fn of_table(table: &Table) -> Result<Plan, BadLine> {
         return keys.bad(&table.place, "is no start word: those have 1 to 32 of a-z A-Z 0-9 _ - .");
     }
     plan_of(&keys)
+}
+
+/// What the keys of a start word say, wherever they have stood.
+pub fn of_said(word: &str, said: &BTreeMap<String, Value>) -> Result<Plan, BadLine> {
+    let place = Place { file: format!("[{word}]").into(), line: 0 };
+    let entry =
+        |(key, value): (&String, &Value)| Entry { key: key.clone(), place: place.clone(), value: value.clone() };
+    let entries = said.iter().map(entry).collect();
+    of_table(&Table { name: word.to_string(), place: place.clone(), entries, is_template: false, instance: None })
 }
 
 /// The plans of a text without templates.
@@ -252,6 +292,8 @@ fn plan_of(keys: &Keys<'_>) -> Result<Plan, BadLine> {
             Some((_, "process")) => SignalTo::Process,
             Some((place, _)) => return keys.bad(place, "signal_to is \"group\" or \"process\""),
         },
+        place: keys.head().clone(),
+        said: keys.said(),
     })
 }
 

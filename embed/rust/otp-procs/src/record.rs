@@ -91,7 +91,7 @@ impl Entry for Record {
         begin_text(time, reading, self.what, line);
         for (key, field) in &self.fields {
             let before = match (*key, field) {
-                ("supervisor", _) => continue,
+                ("supervisor" | "from_text" | "tree_text", _) => continue,
                 ("path", Field::Text(text)) if text.is_empty() => continue,
                 ("path" | "reason" | "ended" | "answer" | "line", Field::Text(_)) => " ",
                 ("cause" | "text", Field::Text(_)) => ": ",

@@ -29,6 +29,8 @@ pub struct Played {
     pub events: usize,
     /// Lines of orders.
     pub orders: usize,
+    /// So often the files were read anew, and the tree was another one from then on.
+    pub reloads: usize,
     /// The last order is the end.
     pub has_ended: bool,
     /// The last line is cut off, as by the end of the machine.
@@ -46,6 +48,16 @@ impl Run<'_> {
     pub fn span(&self) -> (usize, usize) {
         let number = |line: Option<&(usize, &str)>| line.map_or(0, |(number, _)| *number);
         (number(self.lines.first()), number(self.lines.last()))
+    }
+
+    /// The tree that it began with, where the log has that: it was reloaded then.
+    pub fn first_tree(&self) -> Option<String> {
+        let mut lines = self.lines.iter().filter(|(_, line)| line.contains("\"event\":\"reload\""));
+        lines.find_map(|(_, line)| {
+            fields_of(line)
+                .filter(|fields| fields.get("event").is_some_and(|event| event == "reload"))?
+                .remove("from_text")
+        })
     }
 
     /// It has remarks alone.
@@ -196,6 +208,12 @@ fn play(tree: &mut Tree, fields: &BTreeMap<String, String>, played: &mut Played)
     if let Some(event) = fields.get("event") {
         if let Some(order) = next(tree)? {
             return Err(format!("the tree orders {order} before this"));
+        }
+        if event == "reload" {
+            *tree = Tree::open(fields.get("tree_text").ok_or("no tree")?).map_err(|error| error.to_string())?;
+            tree.tick(reading).map_err(|fault| fault.to_string())?;
+            played.reloads += 1;
+            return Ok(());
         }
         let told = told_of(fields, event).ok_or_else(|| format!("no event {event}"))?;
         told.tell(tree, reading).map_err(|fault| fault.to_string())?;

@@ -1,6 +1,13 @@
 //! What a control client may ask for.
 
+use crate::loading::Sources;
 use crate::near;
+use crate::reload::{PATIENCE, Wish};
+use crate::words::time_of;
+use std::ffi::OsString;
+use std::os::unix::ffi::{OsStrExt, OsStringExt};
+use std::path::{Path, PathBuf};
+use std::time::Duration;
 
 /// What a client waits for.
 #[derive(Clone, Copy, Debug, PartialEq, Eq)]
@@ -44,6 +51,10 @@ pub enum Request {
     Page,
     /// Its parts, for who serves it; or, with a mark, those of the first page that has another one.
     PageParts(Option<String>),
+    /// The files are read anew.
+    Reload(Wish),
+    /// The program is replaced, once nothing is under way; so long that is waited for.
+    Reexec(Duration),
     /// The whole tree is shut down.
     Shutdown,
 }
@@ -51,10 +62,12 @@ pub enum Request {
 impl Request {
     /// It changes nothing.
     pub fn is_question(&self) -> bool {
-        !matches!(
-            self,
-            Request::Start(_) | Request::Stop(_) | Request::Restart(_) | Request::Signal(..) | Request::Shutdown
-        )
+        let acts = match self {
+            Request::Reload(wish) => !wish.is_dry,
+            Request::Start(_) | Request::Stop(_) | Request::Restart(_) | Request::Signal(..) => true,
+            _ => matches!(self, Request::Reexec(_) | Request::Shutdown),
+        };
+        !acts
     }
 
     /// Its answer goes on until somebody ends it.
@@ -69,9 +82,9 @@ impl Request {
 }
 
 /// The names of all.
-const NAMES: [&str; 13] = [
+const NAMES: [&str; 15] = [
     "status", "which", "count", "start", "stop", "restart", "signal", "wait", "tail", "events", "metrics", "page",
-    "shutdown",
+    "reload", "reexec", "shutdown",
 ];
 
 /// The words, as `ctl --help` lists them.
@@ -94,6 +107,10 @@ pub const WORDS: &str = "\
   page              the tree as a page of HTML, as it is: what isn't up, restarts, last ends, last lines
   page --serve [unix:PATH | 127.0.0.1:PORT]  serve that page, which follows what happens: by the socket page in the
                     control folder, by that of PATH, or on this machine alone with a token that is printed
+  reload [--dry-run] [--restart] [--within TIME]  read the files anew: the processes of children that stay run on.
+                    --dry-run says what would be done; --restart restarts those that would run otherwise; TIME is
+                    how long it waits until no child is starting or stopping: 30s
+  reexec [--within TIME]  replace the program of the daemon by the one that has its name now; all processes run on
   shutdown          shut the whole tree down, in order
 
 For status, start, stop, restart, signal and wait PATH may be a pattern: 'pool/*' is each child of the pool";
@@ -145,6 +162,10 @@ pub fn request_of(line: &str) -> Result<Request, String> {
         ("tail", rest) => tail_of(rest),
         ("events", rest) => events_of(rest),
         ("signal", rest) => signal_of(rest),
+        ("reload", rest) => reload_of(rest),
+        ("reexec", []) => Ok(Request::Reexec(PATIENCE)),
+        ("reexec", ["--within", time]) => time_of(time).map(Request::Reexec).ok_or(no_time(time)),
+        ("reexec", _) => Err("reexec takes --within TIME alone".to_string()),
         ("wait", [path, "ready"]) => Ok(Request::Wait((*path).to_string(), Wanted::Ready)),
         ("wait", [path, "up"]) => Ok(Request::Wait((*path).to_string(), Wanted::Up)),
         ("wait", [path, "down"]) => Ok(Request::Wait((*path).to_string(), Wanted::Down)),
@@ -170,6 +191,58 @@ fn signal_of(words: &[&str]) -> Result<Request, String> {
     }
     let known: Vec<&str> = SIGNALS.iter().map(|(name, _)| *name).collect();
     Err(format!("there is no signal {name} to send; there are {}", known.join(", ")))
+}
+
+fn no_time(time: &str) -> String {
+    format!("--within wants a time such as 500ms, 5s, 2m or 1h, and not {time}")
+}
+
+fn reload_of(words: &[&str]) -> Result<Request, String> {
+    let mut wish = Wish { is_dry: false, restarts: false, within: PATIENCE, sources: None };
+    let mut words = words.iter();
+    while let Some(word) = words.next() {
+        match *word {
+            "--dry-run" => wish.is_dry = true,
+            "--restart" => wish.restarts = true,
+            "--within" => {
+                let time = words.next().copied().unwrap_or_default();
+                wish.within = time_of(time).ok_or(no_time(time))?;
+            }
+            // Of the daemon's own files it needs no names; these are `otp-procs diff`'s.
+            "--files" => {
+                let tree = words.next().map(|word| path_of(word)).ok_or("--files wants the name of a file")?;
+                wish.sources = Some(Sources { tree, commands: words.next().map(|word| path_of(word)) });
+            }
+            _ => return Err(format!("reload takes --dry-run, --restart and --within TIME, and not {word}")),
+        }
+    }
+    if wish.sources.is_some() && !wish.is_dry {
+        return Err("reload reads the files of the run; others are only compared".to_string());
+    }
+    Ok(Request::Reload(wish))
+}
+
+/// A path as one word: a byte that ends words, or begins an escape, is `%` and two digits.
+pub fn word_of(path: &Path) -> String {
+    let mut word = String::new();
+    for &byte in path.as_os_str().as_bytes() {
+        match byte {
+            b'!'..=b'$' | b'&'..=b'~' => word.push(char::from(byte)),
+            _ => word.push_str(&format!("%{byte:02x}")),
+        }
+    }
+    word
+}
+
+fn path_of(word: &str) -> PathBuf {
+    let mut parts = word.split('%');
+    let mut bytes = parts.next().unwrap_or_default().as_bytes().to_vec();
+    for part in parts {
+        let escaped = part.get(..2).and_then(|digits| u8::from_str_radix(digits, 16).ok());
+        bytes.extend(escaped);
+        bytes.extend_from_slice(&part.as_bytes()[if escaped.is_some() { 2 } else { 0 }..]);
+    }
+    OsString::from_vec(bytes).into()
 }
 
 fn events_of(words: &[&str]) -> Result<Request, String> {

@@ -58,6 +58,11 @@ impl Daemon {
                 self.stop();
             }
             Request::PageParts(Some(mark)) => self.look_for_page(token, mark),
+            Request::Reexec(within) => self.reexec(token, within.as_millis() as u64),
+            Request::Reload(wish) => {
+                self.tell_time();
+                self.reload(token, &wish);
+            }
             question => {
                 let text = self.look(&question);
                 self.answer(token, text.as_deref().map_err(String::as_str));
@@ -250,6 +255,7 @@ impl Daemon {
             }
             Wish::Stop => {
                 self.keeper.release(supervisor, id);
+                self.unstarted.remove(path.trim_start_matches('/'));
                 // Who asks for a stop last is not told that it is done, and then sees the start of an earlier restart.
                 if let Some(restart) = self.restart_of(&start) {
                     (restart.then, restart.is_overtaken) = (None, true);
@@ -290,6 +296,9 @@ impl Daemon {
             return;
         };
         let waiter = self.waiters.remove(at);
+        if waiter.is_of_reload {
+            return self.reload_answered(Ok(&reply.answer));
+        }
         let path = &waiter.path;
         let text = match (&reply.answer, &waiter.then) {
             // A child that had no process is started all the same.

@@ -59,7 +59,7 @@ pub fn has_ended(child: &Child, is_there: bool) -> bool {
 }
 
 /// How a child without a tree of its own stands, in words.
-fn words_of_child(child: &Child, live: Option<&Live>, now: u64) -> String {
+fn words_of_child(child: &Child, live: Option<&Live>, is_changed: bool, now: u64) -> String {
     let mut words = format!("{:<10}", child.state);
     if has_ended(child, live.is_some()) {
         words = "ended, waits".to_string();
@@ -73,6 +73,9 @@ fn words_of_child(child: &Child, live: Option<&Live>, now: u64) -> String {
     }
     if live.is_some_and(|live| matches!(live.stage, Stage::Up(_)) && !live.is_ready) {
         words.push_str("  not ready");
+    }
+    if is_changed {
+        words.push_str("  runs older commands");
     }
     if let Some(own) = live.and_then(|live| live.words.as_ref()) {
         let _ = write!(words, "  says {}", own.escape_debug());
@@ -142,6 +145,12 @@ impl Daemon {
         }
     }
 
+    /// Whether a process would run otherwise if it were started now, since the files were read anew.
+    pub(crate) fn is_changed(&self, live: &Live) -> bool {
+        let plan = self.plans.get(live.process.start.as_str());
+        plan.is_some_and(|plan| live.plan.runs_otherwise(plan))
+    }
+
     fn words_of_work(&self, supervisor: SupervisorId, child: &Child) -> String {
         let path = format!("{}{}", self.paths.get(supervisor.index()).map_or("", String::as_str), name_of(child));
         let live = child.number.and_then(|number| self.live.get(&number));
@@ -204,7 +213,7 @@ fn add_child(
                 format!("down, start {} in {left}", u64::from(kept.times) + 1)
             }
             Some(Waits::Held(times)) => format!("held, after {times} ends in a row"),
-            None => words_of_child(child, live, daemon.reading),
+            None => words_of_child(child, live, live.is_some_and(|live| daemon.is_changed(live)), daemon.reading),
         };
         let _ = writeln!(text, "{name:<COLUMN$} {words}");
     }
@@ -298,6 +307,9 @@ fn add_child_json(daemon: &mut Daemon, supervisor: SupervisorId, child: &Child, 
             let _ = write!(text, ",\"pid\":{},\"since_ms\":{since}", live.pid);
             if matches!(live.stage, Stage::Up(_)) && !live.is_ready {
                 text.push_str(",\"ready\":false");
+            }
+            if daemon.is_changed(live) {
+                text.push_str(",\"changed\":true");
             }
             text.push_str(&live.usage().map_or_else(String::new, usage_json));
             if let Some(words) = &live.words {

@@ -21,6 +21,18 @@ impl Tails {
         tail.extend(bytes);
     }
 
+    /// What is kept of each.
+    pub fn all(&self) -> Vec<(String, Vec<u8>)> {
+        self.0.iter().map(|(path, tail)| (path.clone(), tail.iter().copied().collect())).collect()
+    }
+
+    /// What was written by a process of the first path of each is of the second one; what nobody knows is forgotten.
+    pub fn rename(&mut self, renamed: &[(String, String)], is_known: impl Fn(&str) -> bool) {
+        let taken: Vec<_> = renamed.iter().filter_map(|(old, new)| Some((new.clone(), self.0.remove(old)?))).collect();
+        self.0.extend(taken);
+        self.0.retain(|path, _| is_known(path));
+    }
+
     /// A dynamic child never comes again.
     pub fn forget(&mut self, path: &str) {
         self.0.remove(path);

@@ -3,6 +3,7 @@
 use crate::control::usual_folder;
 use crate::groups::Wanted;
 use crate::help;
+use crate::loading::Sources;
 use crate::near;
 use crate::request;
 use crate::rotate::Rotation;
@@ -20,6 +21,8 @@ pub enum Words {
     Run(Run),
     /// Look whether the files can be read.
     Check(PathBuf, Option<PathBuf>),
+    /// Tell what a reload would do.
+    Diff(Diff),
     /// Print the tree of a file, as the library reads it.
     Show(PathBuf),
     /// Play a log again: its last run, or the one of this number.
@@ -32,6 +35,19 @@ pub enum Words {
     Serve(Option<PathBuf>, Place),
     /// Print this text.
     Print(String),
+}
+
+/// Which files are compared with which.
+#[derive(Clone, Debug, PartialEq, Eq)]
+pub struct Diff {
+    /// The new files.
+    pub new: Sources,
+    /// The files that they are compared with; else those that the daemon of a control folder runs.
+    pub old: Option<Sources>,
+    /// That folder, if it was named.
+    pub folder: Option<PathBuf>,
+    /// What would run otherwise is to be restarted.
+    pub restarts: bool,
 }
 
 /// What is asked of a daemon.
@@ -66,10 +82,19 @@ pub struct Run {
     pub rotation: Option<Rotation>,
     /// The path for whose process all runs.
     pub main: Option<String>,
+    /// An earlier program has left something in this descriptor; where true that is only read.
+    pub take_over: Option<(i32, bool)>,
+}
+
+impl Run {
+    /// Its files.
+    pub fn sources(&self) -> Sources {
+        Sources { tree: self.tree.clone(), commands: self.commands.clone() }
+    }
 }
 
 /// The flags, and the commands that have them.
-const FLAGS: [(&str, &[&str]); 10] = [
+const FLAGS: [(&str, &[&str]); 15] = [
     ("--log", &["run"]),
     ("--json", &["run"]),
     ("--no-control", &["run"]),
@@ -77,13 +102,19 @@ const FLAGS: [(&str, &[&str]); 10] = [
     ("--main", &["run"]),
     ("--log-max", &["run"]),
     ("--log-keep", &["run"]),
-    ("--control", &["run", "ctl"]),
+    ("--control", &["run", "ctl", "diff"]),
+    ("--old", &["diff"]),
+    ("--old-commands", &["diff"]),
+    ("--restart", &["diff"]),
+    // The daemon's own, which no help names.
+    ("--take-over", &["run"]),
+    ("--check", &["run"]),
     ("--run", &["replay"]),
     ("--within", &["ctl"]),
 ];
 
 /// How long the answer of a question is waited for.
-const QUESTION: Duration = Duration::from_secs(10);
+pub const QUESTION: Duration = Duration::from_secs(10);
 
 /// The words, sorted.
 #[derive(Default)]
@@ -118,8 +149,10 @@ fn sort(words: impl Iterator<Item = OsString>) -> Result<Sorted, String> {
         match FLAGS.iter().find(|(flag, _)| *flag == text) {
             _ if matches!(text, "--help" | "-h") => sorted.asks_help = true,
             _ if text == "--version" => sorted.asks_version = true,
-            Some((flag @ ("--json" | "--no-control"), _)) if !is_asked => drop(sorted.flags.insert(flag, word)),
-            Some((flag, _)) if *flag != "--json" => {
+            Some((flag @ ("--json" | "--no-control" | "--restart" | "--check"), _)) if !is_asked => {
+                drop(sorted.flags.insert(flag, word));
+            }
+            Some((flag, _)) if !matches!(*flag, "--json" | "--restart" | "--check") => {
                 let value = words.next().ok_or(format!("{flag} wants a word behind it; {}", more(sorted.verb())))?;
                 sorted.flags.insert(flag, value);
             }
@@ -177,9 +210,13 @@ pub fn read(words: impl Iterator<Item = OsString>) -> Result<Words, String> {
                 _ => Wanted::Folder(folder),
             });
             let main = sorted.text("--main");
+            let is_check = sorted.flags.contains_key("--check");
+            let take_over = sorted.text("--take-over").map(|fd| fd.parse().map(|fd| (fd, is_check)));
+            let take_over = take_over.transpose().map_err(|_| "--take-over is the daemon's own".to_string())?;
             let rotation = rotation_of(&mut sorted, log.is_some())?;
-            Ok(Words::Run(Run { tree, commands, control, log, is_json, cgroup, rotation, main }))
+            Ok(Words::Run(Run { tree, commands, control, log, is_json, cgroup, rotation, main, take_over }))
         }
+        ("diff", Some(tree), commands, None) => diff_of(&mut sorted, Sources { tree, commands }),
         ("check", Some(tree), commands, None) => Ok(Words::Check(tree, commands)),
         ("stand-in", Some(tree), None, None) => Ok(Words::StandIn(tree)),
         ("show", Some(tree), None, None) => Ok(Words::Show(tree)),
@@ -190,7 +227,7 @@ pub fn read(words: impl Iterator<Item = OsString>) -> Result<Words, String> {
                 Err(other) => Err(format!("--run wants the number of a run, from 1, and not {other}")),
             }
         }
-        ("run" | "check", ..) => {
+        ("run" | "check" | "diff", ..) => {
             Err(format!("{verb} wants a file TREE, and COMMANDS where it hasn't all; {}", more(Some(&verb))))
         }
         ("show", ..) => Err(format!("show wants one file: TREE; {}", more(Some("show")))),
@@ -215,6 +252,18 @@ fn rotation_of(sorted: &mut Sorted, has_file: bool) -> Result<Option<Rotation>, 
     Ok(Some(Rotation { most, keep }))
 }
 
+fn diff_of(sorted: &mut Sorted, new: Sources) -> Result<Words, String> {
+    let (old, commands) = (sorted.file("--old"), sorted.file("--old-commands"));
+    if old.is_none() && commands.is_some() {
+        return Err("--old-commands is of --old TREE; say that too".to_string());
+    }
+    let (folder, restarts) = (sorted.file("--control"), sorted.flags.contains_key("--restart"));
+    if old.is_some() && folder.is_some() {
+        return Err(format!("--old and --control: say one of them; {}", more(Some("diff"))));
+    }
+    Ok(Words::Diff(Diff { new, old: old.map(|tree| Sources { tree, commands }), folder, restarts }))
+}
+
 fn ctl_of(sorted: &mut Sorted) -> Result<Words, String> {
     let within = sorted.text("--within").map(|time| time_of(&time).ok_or(time)).transpose();
     let within = within.map_err(|time| format!("--within wants a time such as 500ms, 5s, 2m or 1h, and not {time}"))?;
@@ -227,9 +276,19 @@ fn ctl_of(sorted: &mut Sorted) -> Result<Words, String> {
     {
         return Ok(Words::Serve(folder, Place::of(place)?));
     }
-    let line = words.join(" ");
+    let mut line = words.join(" ");
     let request = request::request_of(&line)?;
-    let within = within.or((!request.waits()).then_some(QUESTION));
+    let mut within = within.or((!request.waits()).then_some(QUESTION));
+    // How long a reload waits is the daemon's; its answer is waited for.
+    let waits_there = match &request {
+        request::Request::Reload(wish) => !wish.is_dry,
+        request::Request::Reexec(_) => true,
+        _ => false,
+    };
+    if let (true, Some(time)) = (waits_there, within) {
+        line.push_str(&format!(" --within {}", time.as_millis()));
+        within = None;
+    }
     Ok(Words::Ctl(Ctl { folder, line, goes_on: request.goes_on(), within }))
 }
 
