@@ -2,7 +2,7 @@
 use Rattle.std.specs.Prelude.{◌≡◌, ◌⊎◌, ℕ, ◌<◌, ◌==◌, Bool, true, false, List, Option, Some, None, count_by}
 use Rattle.std.specs.Io.KnownBytes.{Appends}
 use Rattle.std.specs.Borrow.{Bor}
-use Rattle.otp_sim.specs.Devices.{Devices, Written}
+use Rattle.otp_sim.specs.Devices.{AppendsPart, Devices, Written}
 use Rattle.otp_questions.specs.Compared.{IsCompared}
 use Rattle.otp_folds.specs.declared.alike.Grain.{Grain}
 use Rattle.otp_folds.specs.declared.pick.Pick.{Pick}
@@ -42,7 +42,7 @@ IsComparedWith Holds name other ending file old new =
 -- behind what is told of a log of another program the lines were replayed that stand for it; or it couldn't be told
 abbrev pub IsReplayBehind : List ℕ → Bor (List ℕ) → List ℕ → Bool → List ℕ → ProgramEnd → List ℕ → Written → Written → Type 0
 IsReplayBehind notes log lines is_listed name ending file old new =
-    ((ending ≡ OutputFailed) × (old.failures < new.failures))
+    ((ending ≡ OutputFailed) × (AppendsPart old.bytes new.bytes notes × (old.failures < new.failures)))
     ⊎ ((middle : Written) × (Appends old.bytes middle.bytes notes × IsReplay log lines is_listed name ending file middle new))
 
 -- as many lines stand for these

@@ -38,7 +38,7 @@ pub(crate) fn replay_log<'a, F: TreeFiles, W: Output, E: Output>(
     }
 }
 
-/// The same of a log that was read, with the file of ids, if one is named.
+/// Plays a log that was read, with the file of ids, if one is named.
 fn replay_read<'a, F: TreeFiles, W: Output, E: Output>(
     alloc: Global,
     files: &F,
@@ -68,7 +68,7 @@ fn replay_read<'a, F: TreeFiles, W: Output, E: Output>(
     }
 }
 
-/// The same of a log that was read, where this file says which children its names mean.
+/// Plays a log that was read, where this file says which children its names mean.
 fn replay_text<'a, W: Output>(
     alloc: Global,
     name: &'a str,

@@ -169,7 +169,7 @@ fn number_at(text: &[u8], place: usize, count: usize) -> Option<u64> {
     Some(number)
 }
 
-/// The same of a number up to a most.
+/// The number that so many digits say at a place, up to a most.
 fn number_up_to(text: &[u8], place: usize, count: usize, most: u64) -> Option<u64> {
     let number = number_at(text, place, count)?;
     if number <= most { Some(number) } else { None }

@@ -17,7 +17,7 @@ pub enum Format {
     Supervisord,
     /// The journal of systemd, as `journalctl -o short-iso` prints it.
     Journal,
-    /// The same as `journalctl -o json` prints it.
+    /// The journal of systemd, as `journalctl -o json` prints it.
     JournalObjects,
     /// Erlang's or Elixir's logger, with a formatter of JSON.
     Objects,

@@ -267,7 +267,7 @@ fn replayed_command<'a>(alloc: Global) -> Result<clap::Command<'a>, AllocError>
     with_arg(command, flag_arg(alloc, "timeline", TIMELINE_HELP))
 }
 
-/// `replay FILE LOG [--unmatched] [--timeline] [--quiet] [--clock CLOCK] [--width N]`.
+/// `replay` with what it shows: `[--unmatched] [--timeline] [--quiet] [--clock CLOCK] [--width N]`.
 fn shown_replay_command<'a>(alloc: Global) -> Result<clap::Command<'a>, AllocError>
     ensures { IfOk result (λ c. app_of c ≡ shown_replay_app) }
 {
@@ -277,7 +277,7 @@ fn shown_replay_command<'a>(alloc: Global) -> Result<clap::Command<'a>, AllocErr
     with_arg(command, width_arg(alloc))
 }
 
-/// The same with `[--ids IDS] [--strict]`.
+/// `replay FILE LOG`, also with `[--ids IDS] [--strict]`.
 fn replay_command<'a>(alloc: Global) -> Result<clap::Command<'a>, AllocError>
     ensures { IfOk result (λ c. app_of c ≡ replay_app) }
 {
