@@ -492,6 +492,22 @@ mod tests {
     }
 
     #[test]
+    fn plans_are_compared_by_their_keys() {
+        let plan = |lines: &str| read("f", &format!("[a]\ncommand = ['x']\n{lines}\n")).unwrap()["a"].clone();
+        let (old, new) = (plan("umask = '027'\nrestart_after = '1s'"), plan("\nrestart_after = '2s'\nenv = ['A=b']"));
+        let changes: Vec<String> = old.changes(&new).into_iter().collect();
+        assert_eq!(changes, ["env", "restart_after", "umask"]);
+        assert!(old.runs_otherwise(&new) && !plan("after = ['b']").runs_otherwise(&plan("")));
+        // A process that runs is restarted as the newer one says, and runs as it has begun.
+        let kept = old.at_once(&new);
+        assert_eq!((kept.retry, kept.who.umask, kept.env.len()), (new.retry, Some(0o27), 0));
+        assert_eq!(kept.changes(&new).into_iter().collect::<Vec<String>>(), ["env", "umask"]);
+        // Its keys make the same plan elsewhere.
+        let again = of_said("a", &new.said).unwrap();
+        assert_eq!(Plan { place: new.place.clone(), retry_place: new.retry_place.clone(), ..again }, *new);
+    }
+
+    #[test]
     fn where_output_and_errors_go_is_read() {
         let plan = |lines: &str| read("f", &format!("[a]\ncommand = ['x']\n{lines}\n")).unwrap()["a"].clone();
         let rotation = |most, keep| Some(Rotation { most, keep });

@@ -9,11 +9,13 @@ pub mod shape;
 pub mod steps;
 
 use crate::daemon::{Daemon, Untold, Waiter};
+use crate::live::Live;
 use crate::loading::{Loaded, Sources};
 use crate::log::{Class, Record};
 use crate::os;
-use crate::reload::shape::split_path;
+use crate::reload::shape::{child_at, split_path};
 use crate::reload::steps::{Side, Standing, Steps, Target, steps_between};
+use crate::status;
 use crate::told::{CallKind, Told};
 use otp_supervision::{Answer, Child, ChildState, Name, Phase, Refusal, SupervisorId};
 use std::collections::{BTreeMap, VecDeque};
@@ -55,6 +57,8 @@ pub(crate) struct Reload {
     within: u64,
     /// It is given up at this reading, if something is under way still.
     until: u64,
+    /// The reading at which the client is told what it waits for; nothing once that was done.
+    told_at: Option<u64>,
     /// A call of it isn't answered: which child it is of.
     awaits: Option<String>,
     /// The new files are those that run; what is left is to be started.
@@ -163,7 +167,23 @@ impl Daemon {
 
     /// The reading at which a reload that waits is given up.
     pub(crate) fn reload_due(&self) -> Option<u64> {
-        self.reload.as_ref().filter(|reload| !reload.is_exchanged && reload.awaits.is_none()).map(|reload| reload.until)
+        let reload = self.reload.as_ref().filter(|reload| !reload.is_exchanged && reload.awaits.is_none())?;
+        Some(reload.told_at.map_or(reload.until, |at| at.min(reload.until)))
+    }
+
+    /// What a reload waits for is told to its client once, after a while.
+    fn tell_what_reload_awaits(&mut self) {
+        let now = self.now();
+        let Some(reload) = self.reload.as_mut().filter(|reload| reload.told_at.is_some_and(|at| at <= now)) else {
+            return;
+        };
+        reload.told_at = None;
+        let token = reload.token;
+        let busy = self.tree.supervisors().find(|number| !self.is_calm(*number));
+        let what = busy.map_or("the daemon is busy".to_string(), |number| status::work_of(self, number));
+        if let Some(control) = &mut self.control {
+            control.say_why(now, token, &format!("it waits: {what}"));
+        }
     }
 
     /// Whether the daemon makes no calls of its own meanwhile.
@@ -179,7 +199,8 @@ impl Daemon {
             }
             if self.reload_holds() {
                 if !self.is_quiet() {
-                    if self.reload_due().is_some_and(|until| until <= self.now()) {
+                    self.tell_what_reload_awaits();
+                    if self.reload.as_ref().is_some_and(|reload| reload.until <= self.now()) {
                         self.reload_ends(Some("children are starting or stopping all the time; --within waits longer"));
                     }
                     return;
@@ -205,15 +226,18 @@ impl Daemon {
             return false;
         }
         let is_told = self.untold.is_empty() && self.waiters.is_empty() && self.endings.is_empty();
-        let is_calm = |number: SupervisorId| {
-            let Ok(found) = self.tree.supervisor(number) else { return false };
-            let children = self.children_of(number);
-            let rests = |child: &Child| matches!(child.state, ChildState::Up | ChildState::Undefined);
-            // One that was stopped keeps the mark of that.
-            let is_at_work = found.has_open_work || found.is_stopping;
-            found.phase != Phase::Runs || (!is_at_work && children.iter().all(rests))
-        };
-        is_told && self.live.values().all(|live| !live.is_reaped) && self.tree.supervisors().all(is_calm)
+        is_told
+            && self.live.values().all(|live| !live.is_reaped)
+            && self.tree.supervisors().all(|number| self.is_calm(number))
+    }
+
+    /// A supervisor that runs neither starts nor stops a child.
+    fn is_calm(&self, number: SupervisorId) -> bool {
+        let Ok(found) = self.tree.supervisor(number) else { return false };
+        let rests = |child: &Child| matches!(child.state, ChildState::Up | ChildState::Undefined);
+        // One that was stopped keeps the mark of that.
+        let is_at_work = found.has_open_work || found.is_stopping;
+        found.phase != Phase::Runs || (!is_at_work && self.children_of(number).iter().all(rests))
     }
 
     /// The last of those that are to be stopped and have a process still. A supervisor that has begun anew meanwhile has all again.
@@ -304,8 +328,11 @@ impl Daemon {
         }
         reload.is_exchanged = true;
         self.reload = Some(reload);
+        let shapes = &self.shapes;
+        self.unstarted.retain(|path| child_at(shapes, path).is_some());
         self.go_on();
-        if let Some(groups) = &self.groups {
+        // A process that begins may be on its way into its folder, which is empty till then.
+        if let Some(groups) = self.groups.as_ref().filter(|_| self.live.values().all(Live::has_begun)) {
             groups.clear();
         }
         Ok(())
@@ -364,6 +391,7 @@ impl Reload {
             steps,
             within,
             until: now.saturating_add(within),
+            told_at: Some(now.saturating_add(LONG)),
             awaits: None,
             is_exchanged: false,
             calls: VecDeque::new(),

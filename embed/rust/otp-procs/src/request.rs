@@ -287,6 +287,18 @@ mod tests {
         assert_eq!(request_of("wait pool/* up"), Ok(Request::Wait("pool/*".into(), Wanted::Up)));
         assert_eq!(request_of("signal a sighup --group"), Ok(Request::Signal("a".into(), ("HUP", 1), true)));
         assert_eq!(request_of("events /pool/ -f"), Ok(Request::Events("pool/".into(), true)));
+        let wish = Wish { is_dry: true, restarts: false, within: PATIENCE, sources: None };
+        assert_eq!(request_of("reload --dry-run"), Ok(Request::Reload(wish.clone())));
+        let within = Duration::from_secs(5);
+        let asked = Wish { is_dry: false, restarts: true, within, sources: None };
+        assert_eq!(request_of("reload --restart --within 5s"), Ok(Request::Reload(asked)));
+        for path in ["tree.toml", "/a b/%41\u{e9}\n%", "%", ""] {
+            let line = format!("reload --dry-run --files {} c", word_of(Path::new(path)));
+            let sources = (!path.is_empty()).then(|| Sources { tree: path.into(), commands: Some("c".into()) });
+            let sources = sources.or(Some(Sources { tree: "c".into(), commands: None }));
+            assert_eq!(request_of(&line), Ok(Request::Reload(Wish { sources, ..wish.clone() })), "{line}");
+        }
+        assert_eq!(request_of("reexec --within 5s"), Ok(Request::Reexec(within)));
         assert_eq!(request_of("page"), Ok(Request::Page));
         assert_eq!(request_of("page parts 1-2"), Ok(Request::PageParts(Some("1-2".into()))));
         for bad in [
@@ -299,6 +311,12 @@ mod tests {
             "signal a",
             "signal a X",
             "GET /metrics HTTP/1.1",
+            "page x",
+            "reload x",
+            "reload --within",
+            "reload --files",
+            "reload --files t c",
+            "reexec now",
             "page x",
             "page --serve",
             "tail x y",

@@ -337,17 +337,35 @@ mod tests {
         let served = of("ctl --control f page --serve unix:x");
         assert_eq!(served, Ok(Words::Serve(Some("f".into()), Place::Unix("x".into()))));
         assert_eq!((ctl("ctl stop a").within, ctl("ctl shutdown").folder), (None, None));
+        let asked = ctl("ctl reload --restart --within 2m");
+        assert_eq!((asked.line.as_str(), asked.within), ("reload --restart --within 120000", None));
+        assert_eq!(ctl("ctl reload --dry-run").within, Some(QUESTION));
+        let Ok(Words::Diff(diff)) = of("diff t c --old o --restart") else { panic!("no diff") };
+        let old = Some(Sources { tree: "o".into(), commands: None });
+        assert_eq!((diff.new.commands, diff.old, diff.restarts), (Some("c".into()), old, true));
         assert_eq!(of("replay t l --run 2"), Ok(Words::Replay("t".into(), "l".into(), Some(2))));
-        for bad in
-            ["", "run", "show", "show t c", "run t c x", "run t c --log", "run t c --x", "ctl", "ctl x", "nonsense a b"]
-        {
+        for bad in [
+            "",
+            "run",
+            "diff",
+            "diff t --old-commands x",
+            "diff t --old o --control f",
+            "show",
+            "show t c",
+            "run t c x",
+            "run t c --log",
+            "run t c --x",
+            "ctl",
+            "ctl x",
+            "nonsense a b",
+        ] {
             assert!(of(bad).is_err(), "{bad}");
         }
     }
 
     #[test]
     fn each_command_has_its_help_and_what_is_wrong_a_remedy() {
-        for command in ["run", "check", "show", "replay", "ctl"] {
+        for command in ["run", "check", "diff", "show", "replay", "ctl"] {
             let Ok(Words::Print(text)) = of(&format!("{command} --help")) else { panic!("{command}") };
             assert!(text.starts_with(&format!("otp-procs {command} ")) && text.contains("status"), "{text}");
             assert!(text.lines().all(|line| line.len() <= 119), "{text}");

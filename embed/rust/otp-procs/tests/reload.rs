@@ -188,6 +188,19 @@ fn what_changes_its_kind_is_stopped_and_started() {
 }
 
 #[test]
+fn the_processes_of_a_root_that_shares_one_specification_run_on() {
+    let tree = |more: &str| format!("strategy = \"simple_one_for_one\"\n{more}{}", child("w", ""));
+    let daemon = Daemon::start(&tree(""), COMMANDS);
+    daemon.wait_ready();
+    assert!(daemon.ctl(&["start", "/"]).0 || daemon.ctl(&["status"]).0);
+    write(&daemon, &tree("intensity = 5\n"));
+    assert_eq!(reload(&daemon, &[]), "now     /: intensity 1 -> 5\n");
+    let (is_done, text) = daemon.ctl(&["reexec"]);
+    assert!(is_done, "{text}");
+    end(daemon);
+}
+
+#[test]
 fn what_is_down_stays_down() {
     let tree = |more: &str| {
         [

@@ -300,3 +300,84 @@ impl Walk<'_> {
         self.steps.begun = first;
     }
 }
+
+#[cfg(test)]
+mod tests {
+    use super::*;
+    use crate::plan;
+    use crate::reload::shape::shapes_of;
+    use otp_supervision::{Order, Reading, Tree};
+
+    fn shapes(text: &str) -> Vec<Shape> {
+        let mut tree = Tree::open(text).unwrap();
+        let go_on = |tree: &mut Tree| {
+            while let Some(order) = tree.next_order().unwrap() {
+                if let Order::Start(process) = order {
+                    tree.up(Reading::ZERO, &process).unwrap();
+                }
+            }
+        };
+        go_on(&mut tree);
+        for number in tree.supervisors() {
+            let _ = tree.start_dynamic(Reading::ZERO, number);
+        }
+        go_on(&mut tree);
+        shapes_of(&tree).unwrap()
+    }
+
+    fn steps(old: &str, new: &str, standing: Option<&Standing>) -> Result<Steps, String> {
+        let (old, new) = (shapes(old), shapes(new));
+        let old_plans = plan::read("f", "[s]\ncommand = ['x']\n").unwrap();
+        let new_plans = plan::read("f", "[s]\n# elsewhere\ncommand = ['x']\n").unwrap();
+        let all = Standing::of_new(&old);
+        let (old, new) = (Side { shapes: &old, plans: &old_plans }, Side { shapes: &new, plans: &new_plans });
+        steps_between(old, new, standing.unwrap_or(&all), false)
+    }
+
+    fn child(id: &str, more: &str) -> String {
+        format!("[[child]]\nid = '{id}'\nstart = 's'\n{more}\n")
+    }
+
+    fn below(id: &str, more: &str) -> String {
+        format!("[[child.tree.child]]\nid = '{id}'\nstart = 's'\n{more}\n")
+    }
+
+    #[test]
+    fn where_a_table_stands_is_no_change() {
+        let steps = steps(&child("a", ""), &format!("# more\n{}", child("a", "")), None).unwrap();
+        assert!(steps.is_empty() && !steps.is_new_tree && steps.text() == "nothing changes\n");
+    }
+
+    #[test]
+    fn starts_come_in_order_and_temporary_ones_first() {
+        let pool = child("p", "[child.tree]");
+        let old = [child("a", ""), pool.clone(), below("x", "")].concat();
+        let once = "restart = 'temporary'";
+        let new = [child("n", ""), pool, below("y", ""), below("t", once), below("x", ""), child("z", "")].concat();
+        let steps = steps(&old, &new, None).unwrap();
+        assert_eq!(steps.text(), "stop    a\nstart   p/t\nstart   n\nstart   p/y\nstart   z\n");
+        let started: Vec<Target> = ["n", "p/y", "z"].map(|path| Target::Child(path.to_string())).into();
+        assert_eq!((steps.starts, steps.temporary), (started, BTreeSet::from(["p/t".to_string()])));
+    }
+
+    #[test]
+    fn what_stands_below_one_that_is_down_stays_so() {
+        let pool = |ids: &[&str]| {
+            let below: String = ids.iter().map(|id| below(id, "")).collect();
+            child("p", "[child.tree]") + &below
+        };
+        let down = Standing::default();
+        let steps = steps(&pool(&["a", "b"]), &pool(&["b", "c"]), Some(&down)).unwrap();
+        assert_eq!(steps.text(), "forget  p/a\nlater   p/c: new, and starts with its supervisor\n");
+        assert!(steps.starts.is_empty());
+    }
+
+    #[test]
+    fn the_root_keeps_its_kind() {
+        let simple = format!("strategy = 'simple_one_for_one'\n{}", child("a", ""));
+        assert!(steps(&simple, &child("a", ""), None).is_err() && steps(&child("a", ""), &simple, None).is_err());
+        let other = simple.replace("'s'\n", "'s'\nshutdown = 1\n");
+        let text = steps(&simple, &other, None).unwrap().text();
+        assert_eq!(text, "now     /: shutdown 5000 -> 1\n");
+    }
+}
