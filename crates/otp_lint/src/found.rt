@@ -13,7 +13,7 @@ use otp_source::{Part, Source};
 use std::alloc::{AllocError, Global};
 
 /// A remark on the tree of a file.
-#[derive(Debug, Drop)]
+#[derive(Drop)]
 pub struct LintFinding {
     /// The line of the file that it is about, from 1, where that is known.
     pub line: Option<u64>,

@@ -32,12 +32,15 @@ fn looks(byte: u8) -> u8
 fn look_alike(id: &[u8], other: &[u8]) -> bool
     ensures { result ≡ look_alike id.now other.now }
 {
-    match (id, other) {
-        ([], []) => true,
-        ([byte, bytes @ ..], [next, others @ ..]) => {
-            looks(*byte) == looks(*next) && look_alike(bytes, others)
-        }
-        _ => false,
+    match id {
+        [] => match other {
+            [] => true,
+            [_, ..] => false,
+        },
+        [byte, bytes @ ..] => match other {
+            [] => false,
+            [next, others @ ..] => looks(*byte) == looks(*next) && look_alike(bytes, others),
+        },
     }
 }
 

@@ -33,7 +33,7 @@ pub enum Kind {
 }
 
 /// The ids from below the root on, with a `/` between them; none of the root. Contracts see the bytes.
-#[derive(Debug, Drop)]
+#[derive(Drop)]
 pub struct Path {
     bytes: Vec<u8>,
 }
@@ -90,7 +90,7 @@ impl Path {
 }
 
 /// A remark on a tree.
-#[derive(Debug, Drop)]
+#[derive(Drop)]
 pub struct Remark {
     /// The number of a supervisor: the root's is 0, and others follow in the order of the walk.
     pub supervisor: usize,
@@ -102,7 +102,7 @@ pub struct Remark {
 }
 
 /// Remarks in their order. Contracts see them as a list.
-#[derive(Debug, Drop)]
+#[derive(Drop)]
 pub struct Remarks {
     remarks: Vec<Remark>,
 }

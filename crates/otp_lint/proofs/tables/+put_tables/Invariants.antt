@@ -9,4 +9,6 @@ decreases-put_tables l = goal.size-put_tables l
 
 -- the tables so far, and those of the trees that are left
 abbrev pub invariant-loop-sub : goal.invariant-loop-sub
-invariant-loop-sub l = map table_of l.tables.items ++ flat_map tables_of (drop l.sub-index l.trees) ≡ map table_of l.fn.tables.items ++ tables_of l.fn.tree.now
+invariant-loop-sub l =
+    (map table_of l.tables.items ++ flat_map tables_of (drop l.sub-index l.sub-items) ≡ map table_of l.fn.tables.items ++ tables_of l.fn.tree)
+    × (length (flat_map tables_of (drop l.sub-index l.sub-items)) ≤ length l.fn.tree.below)
