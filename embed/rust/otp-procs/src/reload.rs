@@ -132,7 +132,7 @@ impl Daemon {
 
     /// How the children stand now.
     fn standing(&self) -> Standing {
-        let mut standing = Standing { failing: self.unstarted.clone(), ..Standing::default() };
+        let mut standing = Standing { unstarted: self.unstarted.clone(), ..Standing::default() };
         for number in self.tree.supervisors() {
             let (above, children) = (&self.paths[number.index()], self.children_of(number));
             let count = children.iter().filter(|child| child.id.is_none() && child.number.is_some()).count();
@@ -155,7 +155,7 @@ impl Daemon {
             let path = live.process.id.map_or(above, |_| &live.path);
             standing.older.insert(path.to_string(), live.plan.clone());
         }
-        standing.failing.retain(|path| !standing.running.contains(path));
+        standing.unstarted.retain(|path| !standing.running.contains(path));
         standing
     }
 
@@ -287,16 +287,16 @@ impl Daemon {
         let path = reload.awaits.take().unwrap_or_default();
         reload.until = now.saturating_add(reload.within);
         let refused = match answer {
-            // Somebody else has started it meanwhile.
+            // Somebody else has started it meanwhile, or what is to be stopped is gone.
             Ok(Answer::Refused(Refusal::Running | Refusal::Restarting)) => None,
+            Ok(Answer::Refused(Refusal::NotFound)) if !reload.is_exchanged => None,
             Ok(Answer::Refused(refusal)) => Some(refusal.to_string()),
             Ok(_) => None,
             Err(text) => Some(text.to_string()),
         };
         match refused {
             None if !reload.is_exchanged => reload.gone.push(path),
-            // What is to be stopped may be gone already.
-            Some(_) if !reload.is_exchanged => {}
+            Some(text) if !reload.is_exchanged => self.reload_ends(Some(&format!("{path}: {text}"))),
             None => drop(self.unstarted.remove(&path)),
             Some(text) => {
                 reload.failed.push(format!("failed  {path}: {text}"));

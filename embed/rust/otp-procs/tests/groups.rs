@@ -118,6 +118,38 @@ fn the_own_group_is_taken_and_the_daemon_moves_out_of_it() {
 }
 
 #[test]
+fn a_reload_and_another_program_leave_processes_in_their_groups() {
+    let Some(room) = Room::new("reloads") else { return };
+    let folder = new_folder();
+    fs::write(folder.join("tree.toml"), TREE).unwrap();
+    fs::write(folder.join("commands.toml"), FAMILY).unwrap();
+    let mut command = Command::new("sh");
+    let enter = format!("echo 0 > {}/cgroup.procs; exec \"$0\" \"$@\"", room.0.display());
+    command.args(["-c", &enter, PROGRAM]);
+    let flags = ["--json", "--log", "log", "--control", "control", "--cgroup", "auto"];
+    let mut daemon = Daemon::start_by(folder, command, &flags);
+    daemon.wait_ready();
+    let first = room.processes("tree/p#/a#2");
+    for intensity in [6, 7] {
+        // By its numbers in the new tree the one that runs had another folder.
+        let tree = TREE.replacen("intensity = 5", &format!("intensity = {intensity}"), 1);
+        let new = "[[child]]\nid = \"n\"\nstart = \"a\"\n[[child]]";
+        fs::write(daemon.folder.join("tree.toml"), tree.replacen("[[child]]", new, 1)).unwrap();
+        for words in [&["reload"][..], &["reexec"]] {
+            let (is_done, text) = daemon.ctl(words);
+            assert!(is_done, "{text}\n{}", daemon.read("stderr"));
+            assert_eq!((room.processes("tree/p#/a#2"), room.processes("daemon")), (first.clone(), vec![daemon.pid()]));
+        }
+    }
+    assert_eq!(daemon.ctl(&["status", "--json"]).1.matches("\"processor_ms\":").count(), 4);
+    send(first[0], KILL);
+    wait_until("all of the first are gone", || !first.iter().any(|&pid| lives(pid)));
+    assert!(daemon.ctl(&["wait", "p/a", "up"]).0);
+    assert_eq!(daemon.stop(), 0);
+    daemon.replay();
+}
+
+#[test]
 fn what_cannot_be_had_is_refused_at_once() {
     let folder = new_folder();
     fs::write(folder.join("tree.toml"), TREE).unwrap();

@@ -362,6 +362,8 @@ fn what_can_not_be_started_is_told_and_tried_by_the_next_reload() {
     assert!(!is_done, "{text}");
     assert_eq!(text, "otp-procs: start   new\nfailed  new: the start failed: error:status_3\n");
     assert!(daemon.ctl(&["status", "new"]).1.contains("undefined"));
+    // It is tried again, also with the files as they are.
+    assert_eq!(daemon.ctl(&["reload", "--dry-run"]), (true, "start   new\n".to_string()));
     let better = commands.replace("'{folder}/program'", "'sleep', '1000'").replace("ready = 'notify'\n", "");
     write_commands(&daemon, &better);
     assert_eq!(reload(&daemon, &[]), "start   new: command, ready\n");

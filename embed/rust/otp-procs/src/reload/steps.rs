@@ -13,8 +13,10 @@ pub struct Standing {
     pub running: BTreeSet<String>,
     /// So many processes the supervisors have whose children share one specification.
     pub dynamic: BTreeMap<String, usize>,
-    /// Those that are down since their starts have failed, and not since somebody has stopped them.
+    /// Those that fail alone and are down, held or until their next start.
     pub failing: BTreeSet<String>,
+    /// Those that an earlier reload couldn't start.
+    pub unstarted: BTreeSet<String>,
     /// What processes run that were started before an earlier reload, which has changed that; by the path of their child, or of the
     /// supervisor of all that share a specification.
     pub older: BTreeMap<String, Rc<Plan>>,
@@ -205,11 +207,12 @@ impl Walk<'_> {
 
     fn worker(&mut self, path: &str, later: &str, has_more: bool, is_down: bool) {
         let is_running = self.standing.running.contains(path);
-        let is_failing = self.standing.failing.contains(path);
+        let is_tried = self.standing.unstarted.contains(path)
+            || (self.standing.failing.contains(path) && (has_more || !later.is_empty()));
         if is_running && !later.is_empty() && self.restarts {
             self.stop(path, "restart", later);
             self.want(path);
-        } else if is_failing && !is_down && (has_more || !later.is_empty()) {
+        } else if is_tried && !is_running && !is_down {
             self.begin(path, later);
         } else if !later.is_empty() {
             let down = if is_running { "" } else { " (it is down)" };
