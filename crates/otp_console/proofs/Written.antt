@@ -1,5 +1,5 @@
 -- What was written of a file that was checked.
-use Rattle.std.proofs.Common.{◌≡◌, ℕ, List, [], ◌∷◌, ◌⊎◌, inl, inr, true, refl, subst, sym}
+use Rattle.std.proofs.Common.{◌≡◌, ◌≤◌, ℕ, Bool, true, false, List, [], ◌∷◌, ◌⊎◌, inl, inr, ap, arith, length, refl, subst, sym}
 use Rattle.otp_check.specs.Checks.{Finds, remarked}
 use Rattle.otp_check.specs.declared.finding.Finding.{Finding}
 use Rattle.otp_ending.specs.declared.ending.ProgramEnd.{ProgramEnd}
@@ -60,3 +60,39 @@ remarked_on checking name file (first ∷ others) ending old new is wanted finds
     subst (λ (e : ProgramEnd). IsChecked checking name e file old new) (sym failed) counted
 remarked_on checking name file (first ∷ others) ending old new is wanted finds some (inr (inr (refused, same))) =
     subst (λ (e : ProgramEnd). IsChecked checking name e file old new) (sym refused) same
+
+-- a list of no length
+none_of : {T : Type 0} (xs : List T) → length xs ≡ 0 → xs ≡ []
+none_of [] none = refl
+none_of (x ∷ xs) none = absurd (omega (arith, none))
+
+-- one that has some
+pub some_of : {T : Type 0} (xs : List T) → 1 ≤ length xs → xs ≡ [] → ⊥
+some_of [] some is = omega (arith, some)
+some_of (x ∷ xs) some is = omega (arith, ap length is)
+
+-- nothing was found, and starts are not looked at
+pub lawful_when : (checking : Checking) (file : List ℕ) (found : List Finding) → Finds found file → length found ≡ 0 → checking.has_starts ≡ false
+    → IsLawfulFor checking.has_starts file
+lawful_when checking file found finds none without =
+    subst (λ (starts : Bool). IsLawfulFor starts file) (sym without) (subst (λ (fs : List Finding). Finds fs file) (none_of found none) finds)
+
+-- of the starts nothing was found either
+pub runnable_when : (checking : Checking) (file : List ℕ) (found : List StartFinding) → FindsUnfit found file → length found ≡ 0 → checking.has_starts ≡ true
+    → IsLawfulFor checking.has_starts file
+runnable_when checking file found finds none with =
+    subst (λ (starts : Bool). IsLawfulFor starts file) (sym with) (subst (λ (fs : List StartFinding). FindsUnfit fs file) (none_of found none) finds)
+
+-- no remarks are wanted
+pub lawful_unasked : (checking : Checking) (name file : List ℕ) (ending : ProgramEnd) (old new : Written) → IsLawfulFor checking.has_starts file → checking.has_remarks ≡ false
+    → IsWritten (TellsLawful checking.is_json name) Done ending old new → IsChecked checking name ending file old new
+lawful_unasked checking name file ending old new is without written =
+    lawful checking name file ending old new is (subst (λ (wanted : Bool). IsPlainFor wanted file) (sym without) tt) written
+
+-- there are none
+pub lawful_plain : (checking : Checking) (name file : List ℕ) (found : List LintFinding) (ending : ProgramEnd) (old new : Written) → IsLawfulFor checking.has_starts file
+    → lint.FindsAny found file → length found ≡ 0 → checking.has_remarks ≡ true
+    → IsWritten (TellsLawful checking.is_json name) Done ending old new → IsChecked checking name ending file old new
+lawful_plain checking name file found ending old new is any none with written =
+    let plain : lint.IsPlain file = subst (λ (fs : List LintFinding). lint.FindsAny fs file) (none_of found none) any in
+    lawful checking name file ending old new is (subst (λ (wanted : Bool). IsPlainFor wanted file) (sym with) plain) written

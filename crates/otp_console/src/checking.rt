@@ -20,7 +20,6 @@ use std::alloc::{AllocError, Global};
 
 /// Writes all that is wrong in a file, a line for each fault, that for which its tree is refused first. Of a file in which nothing
 /// is wrong it writes the remarks, where they are wanted.
-#[tactic(auto, using(crate::proofs::Written::faulty))]
 pub fn check_file<'a, W: Output>(
     alloc: Global,
     name: &'a str,
@@ -42,7 +41,6 @@ pub fn check_file<'a, W: Output>(
 }
 
 /// Writes which starts of a lawful file `run` would refuse.
-#[tactic(auto, using(crate::proofs::Written::unfit_for))]
 fn check_starts<'a, W: Output>(
     alloc: Global,
     name: &'a str,
@@ -64,7 +62,7 @@ fn check_starts<'a, W: Output>(
 }
 
 /// Writes the remarks on the tree of a lawful file, where they are wanted and there are some.
-#[tactic(auto, using(crate::proofs::Written::lawful, crate::proofs::Written::remarked_on))]
+#[tactic(auto, using(crate::proofs::Written::lawful_unasked))]
 fn check_remarks<'a, W: Output>(
     alloc: Global,
     name: &'a str,
