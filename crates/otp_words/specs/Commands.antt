@@ -102,10 +102,11 @@ replay_app = with_rule (with_rule shown_replay_app (option_rule (codes "ids"))) 
 abbrev pub import_app : App
 import_app = with_rule (file_app (codes "import")) (flag_rule (codes "commands"))
 
+abbrev pub checked_app : App
+checked_app = with_rule (with_rule (with_rule (new_app (codes "check")) files_rule) (flag_rule (codes "run"))) (flag_rule (codes "lint"))
+
 abbrev pub check_app : App
-check_app =
-    with_rule (with_rule (with_rule (with_rule (with_rule (new_app (codes "check")) files_rule) (flag_rule (codes "run")))
-    (flag_rule (codes "lint"))) (flag_rule (codes "all"))) (flag_rule (codes "json"))
+check_app = with_rule (with_rule checked_app (flag_rule (codes "all"))) (flag_rule (codes "json"))
 
 -- the program, before its subcommands are added
 abbrev pub bare_app : App

@@ -2,7 +2,7 @@
 
 ghost use Rattle.std.specs.Prelude.{◌≡◌, true, false, codes, IfOk};
 ghost use Rattle.clap.specs.Words.{app_of, new_app, rule_of, with_rule, with_subcommand};
-ghost use Rattle.otp_words.specs.Commands.{bare_app, check_app, clock_rule, diff_app, file_app, file_rule, files_rule, flag_rule, import_app, limits_app, needed_rule, number_rule, option_rule, otp_app, picked_app, place_rule, played_app, replay_app, replayed_app, run_app, scheduled_app, shown_app, shown_replay_app, suggest_app, tree_app, tried_app, try_app};
+ghost use Rattle.otp_words.specs.Commands.{bare_app, check_app, checked_app, clock_rule, diff_app, file_app, file_rule, files_rule, flag_rule, import_app, limits_app, needed_rule, number_rule, option_rule, otp_app, picked_app, place_rule, played_app, replay_app, replayed_app, run_app, scheduled_app, shown_app, shown_replay_app, suggest_app, tree_app, tried_app, try_app};
 
 use crate::help::*;
 use clap::{Arg, ArgAction};
@@ -165,14 +165,21 @@ fn file_command<'a>(
     )
 }
 
-/// `check FILE.. [--run] [--lint] [--all] [--json]`.
-fn check_command<'a>(alloc: Global) -> Result<clap::Command<'a>, AllocError>
-    ensures { IfOk result (λ c. app_of c ≡ check_app) }
+/// `check FILE.. [--run] [--lint]`.
+fn checked_command<'a>(alloc: Global) -> Result<clap::Command<'a>, AllocError>
+    ensures { IfOk result (λ c. app_of c ≡ checked_app) }
 {
     let command = new_command(alloc, "check", CHECK_ABOUT, CHECK_EXAMPLE);
     let command = with_arg(command, files_arg(alloc, FILES_OR_INPUT))?;
     let command = with_arg(command, flag_arg(alloc, "run", STARTS_HELP))?;
-    let command = with_arg(command, flag_arg(alloc, "lint", REMARKS_HELP))?;
+    with_arg(command, flag_arg(alloc, "lint", REMARKS_HELP))
+}
+
+/// `check FILE..` with what is looked for, and `[--all] [--json]`.
+fn check_command<'a>(alloc: Global) -> Result<clap::Command<'a>, AllocError>
+    ensures { IfOk result (λ c. app_of c ≡ check_app) }
+{
+    let command = checked_command(alloc)?;
     let command = with_arg(command, flag_arg(alloc, "all", ALL_HELP))?;
     with_arg(command, flag_arg(alloc, "json", JSON_HELP))
 }
