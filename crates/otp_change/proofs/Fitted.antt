@@ -1,16 +1,15 @@
 -- The children after a change are those of the specifications.
-use Rattle.std.proofs.Common.{◌≡◌, ◌+◌, ◌≤◌, ℕ, Bool, true, false, List, [], ◌∷◌, ◌++◌, Option, None, Some, ap, append-nil, append_assoc, arith, length, length-append, map, refl, true≢false, sym, ◌∙◌}
+use Rattle.std.proofs.Common.{◌≡◌, ◌+◌, Bool, true, false, List, [], ◌∷◌, ◌++◌, Option, None, Some, ap, append-nil, append_assoc, arith, length, length-append, map, refl, true≢false, sym, ◌∙◌}
 use Rattle.std.specs.Prelude.{if◌then◌else◌}
 use Rattle.std.proofs.lemmas.List.{map-append}
 use Rattle.otp_spec.specs.declared.child.ChildSpec.{ChildSpec}
 use Rattle.otp_spec.specs.declared.flags.SupFlags.{SupFlags}
 use Rattle.otp_spec.specs.Flags.{is_simple}
 use Rattle.otp_table.specs.declared.row.Row.{Row}
-use Rattle.otp_rules.specs.declared.work.Phase.{Phase}
 use Rattle.otp_rules.specs.State.{State, is_over}
 use Rattle.otp_change.specs.declared.seat.Seat.{Seat}
 use Rattle.otp_change.specs.declared.seat.Seat.TheVariants.{Kept, Added}
-use Rattle.otp_change.specs.Change.{changed, plan_in, shared}
+use Rattle.otp_change.specs.Change.{changed, shared}
 use Rattle.otp_change.specs.Seats.{added_row, filled, kept_rows, named, rows_of, seat_of, seated, standing, with_seat, Seated}
 
 -- the specification of a seat

@@ -1,5 +1,5 @@
 -- A supervisor in order stays so, under other flags and specifications.
-use Rattle.std.proofs.Common.{◌≡◌, ◌+◌, ◌≤◌, ◌&&◌, ◌||◌, ◌==◌, ℕ, Bool, true, false, not, List, [], ◌∷◌, Option, None, Some, ap, arith, length, map, refl, subst, sym, ◌∙◌}
+use Rattle.std.proofs.Common.{◌≡◌, ◌&&◌, ◌||◌, ◌==◌, ℕ, Bool, true, false, not, List, [], Option, None, Some, arith, length, map, refl, subst, sym, ◌∙◌}
 use Rattle.std.specs.Prelude.{if◌then◌else◌, is_none}
 use Rattle.std.proofs.lemmas.Bool.{and_parts, eqb-true, false≢true}
 use Rattle.std.proofs.lemmas.List.{nil_from_length}
@@ -21,7 +21,7 @@ use Rattle.otp_rules.specs.InOrder.{IsInOrder}
 use Rattle.otp_rules.specs.State.{State, is_over}
 use Rattle.otp_change.specs.declared.fault.ChangeFault.{ChangeFault}
 use Rattle.otp_change.specs.declared.fault.ChangeFault.TheVariants as fault
-use Rattle.otp_change.specs.Change.{MayChange, changed, is_quiet, is_turned, phase_after, plan_fault, plan_in, rows_after, shared, spec_fault}
+use Rattle.otp_change.specs.Change.{MayChange, changed, is_quiet, is_turned, phase_after, plan_fault, plan_in, shared, spec_fault}
 use Rattle.otp_change.specs.Seats.{rows_of, seated, standing}
 use Rattle.otp_change.proofs.Counted.{by_state, children_stay}
 

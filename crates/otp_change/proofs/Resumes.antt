@@ -1,5 +1,5 @@
 -- A core goes on from a changed checkpoint, where one went on from the checkpoint before.
-use Rattle.std.proofs.Common.{◌≡◌, ◌+◌, ◌-◌, ◌*◌, ◌≤◌, ◌&&◌, ℕ, All, Bool, true, false, List, [], ap, arith, drop, get_or, length, length-drop, map, nat_le, nat_lt, refl, subst, sym, ◌∙◌, None}
+use Rattle.std.proofs.Common.{◌≡◌, ◌-◌, ◌*◌, ◌≤◌, ◌&&◌, ℕ, All, Bool, true, false, List, [], ap, arith, drop, get_or, length, length-drop, map, nat_le, refl, subst, sym, ◌∙◌, None}
 use Rattle.std.specs.Prelude.{if◌then◌else◌}
 use Rattle.std.specs.List.{filter}
 use Rattle.std.specs.List.Sorted.{IsNonDecreasing}
@@ -23,7 +23,7 @@ use Rattle.otp_base.specs.declared.base.Counts.{Counts}
 use Rattle.otp_base.specs.Lawful.{ends_by_intensity, is_crowded, AreCounts, AreRestarts, IsLawful}
 use Rattle.otp_base.specs.States.{state_in}
 use Rattle.otp_change.specs.declared.seat.Seat.{Seat}
-use Rattle.otp_change.specs.Change.{changed, phase_after, plan_in, shared, stamps_after}
+use Rattle.otp_change.specs.Change.{changed, phase_after, shared, stamps_after}
 use Rattle.otp_change.specs.Seats.{rows_of, seated, standing}
 use Rattle.otp_change.proofs.Fitted.{rows_length}
 use Rattle.otp_change.proofs.Seating.{each_seat}

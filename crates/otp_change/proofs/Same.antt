@@ -1,10 +1,9 @@
 -- Where a supervisor gets the flags and specifications that it has, nothing changes.
-use Rattle.std.proofs.Common.{◌≡◌, ◌+◌, ◌-◌, ◌≤◌, ◌&&◌, ◌||◌, ◌==◌, ℕ, All, Bool, true, false, not, List, [], ◌∷◌, ◌++◌, Option, None, Some, ap, append-nil, append_assoc, arith, count_by, drop, length, map, refl, subst, sym, ◌∙◌}
-use Rattle.std.specs.Prelude.{if◌then◌else◌, is_none}
+use Rattle.std.proofs.Common.{◌≡◌, ◌-◌, ◌≤◌, ℕ, All, Bool, true, false, List, [], ◌∷◌, ◌++◌, Option, None, Some, ap, append-nil, append_assoc, arith, drop, length, map, refl, sym, ◌∙◌}
+use Rattle.std.specs.Prelude.{if◌then◌else◌}
 use Rattle.std.specs.List.{filter}
 use Rattle.std.specs.Str.{bytes_eq}
-use Rattle.std.proofs.lemmas.Bool.{and_parts, eqb-true, false≢true, true≢false}
-use Rattle.std.proofs.lemmas.List.{nil_from_length}
+use Rattle.std.proofs.lemmas.Bool.{false≢true, true≢false}
 use Rattle.std.proofs.lemmas.List.Elements.{All-head, All-tail}
 use Rattle.std.proofs.lemmas.List.Sums.{count_by-le-length, length-filter}
 use Rattle.std.proofs.lemmas.Slice.Eq.{bytes_eq-Decides}
@@ -24,10 +23,10 @@ use Rattle.otp_rules.specs.declared.work.Sequel.{Sequel}
 use Rattle.otp_rules.specs.Rate.{IsBounded}
 use Rattle.otp_rules.specs.State.{State, is_over}
 use Rattle.otp_change.specs.declared.seat.Seat.{Seat}
-use Rattle.otp_change.specs.declared.seat.Seat.TheVariants.{Kept, Added}
-use Rattle.otp_change.specs.Change.{MayChange, changed, is_quiet, phase_after, rows_after, shared, stamps_after}
+use Rattle.otp_change.specs.declared.seat.Seat.TheVariants.{Kept}
+use Rattle.otp_change.specs.Change.{MayChange, changed, phase_after, rows_after, shared, stamps_after}
 use Rattle.otp_change.specs.Laws.{AreOf}
-use Rattle.otp_change.specs.Seats.{filled, kept_rows, named, respecified, rows_of, seat_of, seated, standing, with_seat, without, Seated}
+use Rattle.otp_change.specs.Seats.{filled, kept_rows, named, rows_of, seat_of, seated, standing, without, Seated}
 use Rattle.otp_change.proofs.Kept.{Rests, no_plan_fault, rests}
 use Rattle.otp_change.proofs.Resumes.{few_kept}
 

@@ -3,7 +3,7 @@ use Rattle.std.proofs.Common.{◌≡◌, ◌+◌, ◌<◌, ◌≤◌, ◌==◌, 
 use Rattle.std.specs.Prelude.{◌⊎◌, if◌then◌else◌}
 use Rattle.std.specs.List.{list_any}
 use Prim.Native.Nat.{suc, zero}
-use Rattle.std.proofs.lemmas.Bool.{cases_Bool, cond_both, eq-eqb, eqb-true, false≢true, lt-ltb, ltb-false, ltb-true, true≢false}
+use Rattle.std.proofs.lemmas.Bool.{cases_Bool, cond_both, eq-eqb, eqb-true, false≢true, lt-ltb, ltb-false, ltb-true}
 use Rattle.std.proofs.lemmas.List.Elements.{All-head, All-tail}
 use Rattle.std.proofs.lemmas.Option.{none-some}
 use Rattle.otp_spec.specs.declared.child.ChildSpec.{ChildSpec}
@@ -20,8 +20,8 @@ use Rattle.otp_rules.specs.Slots.{AreSlotted}
 use Rattle.otp_rules.specs.State.{State, is_over}
 use Rattle.otp_change.specs.declared.seat.Seat.{Seat}
 use Rattle.otp_change.specs.declared.seat.Seat.TheVariants.{Kept, Added}
-use Rattle.otp_change.specs.Change.{MayChange, changed, plan_in, shared}
-use Rattle.otp_change.specs.Seats.{added_row, filled, kept_rows, rows_of, seated, standing, vacant, Seated}
+use Rattle.otp_change.specs.Change.{MayChange, changed, shared}
+use Rattle.otp_change.specs.Seats.{added_row, filled, kept_rows, rows_of, seated, standing, vacant}
 use Rattle.otp_change.proofs.Counted.{all_counted, count-cons, count-push, seat_count, shared_count}
 use Rattle.otp_change.proofs.Kept.{no_plan_fault}
 use Rattle.otp_change.proofs.Resumes.{plan_length}

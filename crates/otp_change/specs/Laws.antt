@@ -58,7 +58,7 @@ SameStays =
     → MayChange s.flags s.specs s → is_simple s.flags.strategy ≡ false → is_over s.phase ≡ false → AreOf s.specs s.rows
     → ◌≡◌ {A = State} (changed s.flags s.specs s) (record s { stamps = stamps_after s.flags s.last s.stamps })
 
--- and of these those alone are dropped that lie before the period, if no more lie in it than the intensity
+-- of its restarts those alone are dropped that lie before the period, if no more lie in it than the intensity
 abbrev pub StampsStay : Type 0
 StampsStay =
     (flags : SupFlags) (last : ℕ) (stamps : List ℕ)
