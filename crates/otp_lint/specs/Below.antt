@@ -12,7 +12,7 @@ use Rattle.otp_spec.specs.declared.flags.AutoShutdown.{AutoShutdown}
 use Rattle.otp_spec.specs.declared.flags.AutoShutdown.TheVariants.{Never, AnySignificant, AllSignificant}
 use Rattle.otp_spec.specs.declared.flags.SupFlags.{SupFlags}
 use Rattle.otp_spec.specs.declared.limits.TheConstants.{MAX_READING}
-use Rattle.otp_stops.specs.Stops.{later}
+use Rattle.otp_shutdown.specs.Stops.{later}
 use Rattle.otp_lint.specs.declared.below.Below.{Below}
 use Rattle.otp_lint.specs.declared.below.Seen.{Seen}
 

@@ -13,7 +13,7 @@ use Rattle.otp_spec.specs.declared.child.ChildType.TheVariants.{Worker, Supervis
 use Rattle.otp_spec.specs.declared.flags.Strategy.{Strategy}
 use Rattle.otp_spec.specs.declared.flags.Strategy.TheVariants.{OneForOne, OneForAll, RestForOne, SimpleOneForOne}
 use Rattle.otp_spec.specs.declared.flags.SupFlags.{SupFlags}
-use Rattle.otp_stops.specs.Stops.{is_endless_by}
+use Rattle.otp_shutdown.specs.Stops.{is_endless_by}
 use Rattle.otp_lint.specs.Below.{below_in, is_restartable, may_restart, seen_in, stop_of}
 use Rattle.otp_lint.specs.declared.below.Below.{Below}
 use Rattle.otp_lint.specs.declared.below.Seen.{Seen}

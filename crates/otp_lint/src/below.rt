@@ -25,7 +25,7 @@ pub(crate) struct Seen {
 }
 
 /// How many milliseconds the stop of a child takes by its shutdown; none where it has no limit.
-#[tactic(auto, unfolding(crate::specs::Below::own_stop, otp_stops::specs::Stops::later))]
+#[tactic(auto, unfolding(crate::specs::Below::own_stop, otp_shutdown::specs::Stops::later))]
 fn own_stop(shutdown: Shutdown) -> u64
     ensures { result ≡ own_stop shutdown }
 {

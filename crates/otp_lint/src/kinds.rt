@@ -3,7 +3,7 @@
 ghost use Rattle.std.specs.Prelude.{◌≡◌, count_by};
 ghost use Rattle.std.specs.List.{list_any};
 ghost use Rattle.otp_lint.specs.Lint.{alike_id, endless_worker, fan_out, gives_up, is_alone, is_always, is_longer, is_process, is_waited_for, is_worker, long_stop, never_ends, no_restart, starts_as};
-ghost use Rattle.otp_stops.specs.Stops.{is_endless_by};
+ghost use Rattle.otp_shutdown.specs.Stops.{is_endless_by};
 
 use crate::below::{Below, Seen, has_restart, is_restartable, may_restart, stop_of};
 use crate::looks::first_alike;
@@ -96,7 +96,7 @@ fn is_worker(kind: ChildType) -> bool
 }
 
 /// Whether a child has for ever to stop.
-#[tactic(auto, unfolding(otp_stops::specs::Stops::is_endless_by))]
+#[tactic(auto, unfolding(otp_shutdown::specs::Stops::is_endless_by))]
 fn is_endless(shutdown: Shutdown) -> bool
     ensures { result ≡ is_endless_by shutdown }
 {
