@@ -41,8 +41,11 @@ unfoldable pub hidden_of : Bool → ℕ → ℕ
 hidden_of true count = 0
 hidden_of false count = count - MOST_WRITTEN
 
+unfoldable pub more_text : ℕ → List ℕ
+more_text hidden = codes ": and " ++ decimal hidden ++ codes " more; --all shows them\n"
+
 unfoldable pub hidden_text : List ℕ → ℕ → List ℕ
-hidden_text shown hidden = if hidden == 0 then [] else shown ++ codes ": and " ++ decimal hidden ++ codes " more; --all shows them\n"
+hidden_text shown hidden = if hidden == 0 then [] else shown ++ more_text hidden
 
 -- a line for each of these
 abbrev pub lines_text : {T : Type 0} → (T → Remarked) → List ℕ → List T → List ℕ
@@ -72,25 +75,37 @@ unfoldable pub said_objects : {T : Type 0} → (T → Remarked) → List T → L
 said_objects said [] = []
 said_objects said (first ∷ others) = said_object (said first) ++ next_objects said others
 
+-- a list of such objects behind this, and the end of the file's object
+unfoldable pub list_text : {T : Type 0} → (T → Remarked) → List ℕ → List T → List ℕ
+list_text said front found = front ++ said_objects said found ++ codes "]}\n"
+
 -- the object of a file with faults
 unfoldable pub faults_object : {T : Type 0} → (T → Remarked) → List ℕ → List T → List ℕ
-faults_object said name faults = file_member name ++ codes ", \"faults\": [" ++ said_objects said faults ++ codes "]}\n"
+faults_object said name faults = file_member name ++ list_text said (codes ", \"faults\": [") faults
 
 -- the object of a lawful file on whose tree there are remarks
 unfoldable pub remarks_object : {T : Type 0} → (T → Remarked) → List ℕ → List T → List ℕ
-remarks_object said name remarks = file_member name ++ codes ", \"faults\": [], \"remarks\": [" ++ said_objects said remarks ++ codes "]}\n"
+remarks_object said name remarks = file_member name ++ list_text said (codes ", \"faults\": [], \"remarks\": [") remarks
 
 -- the object of a lawful file
 unfoldable pub lawful_object : List ℕ → List ℕ
 lawful_object name = file_member name ++ codes ", \"faults\": []}\n"
 
--- the object of a lawful file of which something is said all the same
+-- what is said of it all the same, and the end of its object
+unfoldable pub warning_text : List ℕ → List ℕ
+warning_text warning = codes ", \"faults\": []" ++ text_member (codes ", ") (codes "warning") warning ++ codes "}\n"
+
+-- the object of such a file
 unfoldable pub warned_object : List ℕ → List ℕ → List ℕ
-warned_object name warning = file_member name ++ codes ", \"faults\": []" ++ text_member (codes ", ") (codes "warning") warning ++ codes "}\n"
+warned_object name warning = file_member name ++ warning_text warning
 
 -- the object of a file that can't be read
 unfoldable pub unread_object : List ℕ → List ℕ → List ℕ
 unread_object name why = file_member name ++ text_member (codes ", ") (codes "unread") why ++ codes "}\n"
+
+-- the line of a lawful file
+unfoldable pub plain_line : List ℕ → List ℕ
+plain_line shown = line_text shown None (codes "a lawful tree")
 
 -- the line of a file that can't be read
 unfoldable pub unread_text : List ℕ → List ℕ → List ℕ
@@ -113,7 +128,7 @@ TellsRemarks said false has_all name remarks text = TellsLines said has_all name
 -- of one that is lawful
 abbrev pub TellsPlain : Bool → List ℕ → List ℕ → Type 0
 TellsPlain true name text = text ≡ lawful_object name
-TellsPlain false name text = (shown : List ℕ) × (IsShown name shown × (text ≡ line_text shown None (codes "a lawful tree")))
+TellsPlain false name text = (shown : List ℕ) × (IsShown name shown × (text ≡ plain_line shown))
 
 -- of one that is lawful, and of which this is said
 abbrev pub TellsWarned : Bool → List ℕ → List ℕ → List ℕ → Type 0

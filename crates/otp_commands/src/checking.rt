@@ -6,7 +6,7 @@ ghost use Rattle.otp_commands.specs.Runs.{IsChecked, IsLawfulFor, IsPlainFor, Is
 ghost use Rattle.otp_lint.specs.Found.{remarked};
 ghost use Rattle.otp_exit.specs.declared.ending.ProgramEnd.TheVariants.{Done, FaultsFound, FileNotRead};
 
-use crate::findings::{shown_name, write_line, write_some, write_unread_line};
+use crate::findings::{shown_name, write_line, write_plain_line, write_some, write_unread_line};
 use crate::objects::{
     put_fault_object, put_lawful_object, put_remark_object, put_unread_object, put_warned_object,
 };
@@ -20,6 +20,7 @@ use std::alloc::{AllocError, Global};
 
 /// Writes all that is wrong in a file, a line for each fault, that for which its tree is refused first. Of a file in which nothing
 /// is wrong it writes the remarks, where they are wanted.
+#[tactic(auto, using(crate::proofs::Written::lawful_when))]
 pub fn check_file<'a, W: Output>(
     alloc: Global,
     name: &'a str,
@@ -41,6 +42,7 @@ pub fn check_file<'a, W: Output>(
 }
 
 /// Writes which starts of a lawful file `run` would refuse.
+#[tactic(auto, using(crate::proofs::Written::runnable_when))]
 fn check_starts<'a, W: Output>(
     alloc: Global,
     name: &'a str,
@@ -96,7 +98,7 @@ fn text_of_plain(alloc: Global, is_json: bool, name: &str) -> Result<Vec<u8>, Al
         return Ok(text);
     }
     let shown = shown_name(alloc, name)?;
-    write_line(shown.as_slice(), None, b"a lawful tree", &mut text)?;
+    write_plain_line(shown.as_slice(), &mut text)?;
     Ok(text)
 }
 

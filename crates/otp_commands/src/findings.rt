@@ -2,7 +2,7 @@
 
 ghost use Rattle.std.specs.Prelude.{◌≡◌, ◌++◌, IfOk, OnOk};
 ghost use Rattle.std.specs.List.{list_any};
-ghost use Rattle.otp_commands.specs.Findings.{IsShown, front_text, hidden_of, hidden_text, is_unplain, line_text, lines_text, plain_name, some_text, unread_text, written_of};
+ghost use Rattle.otp_commands.specs.Findings.{IsShown, front_text, hidden_of, hidden_text, is_unplain, line_text, lines_text, more_text, plain_line, plain_name, some_text, unread_text, written_of};
 
 use otp_check::Remark;
 use otp_text::write_number;
@@ -142,7 +142,18 @@ fn hidden_of(has_all: bool, count: usize) -> usize
     }
 }
 
-/// Appends how many faults are not written, if some are not.
+/// Appends how many faults are not written.
+#[tactic(auto, unfolding(crate::specs::Findings::more_text))]
+fn write_more(hidden: u64, out: &mut Vec<u8>) -> Result<(), AllocError>
+    ensures { OnOk result (out.new.items ≡ out.old.items ++ more_text hidden) }
+{
+    out.extend_from_slice(b": and ")?;
+    write_number(hidden, out)?;
+    out.extend_from_slice(b" more; --all shows them\n")?;
+    Ok(())
+}
+
+/// Appends the name, and how many faults are not written, if some are not.
 #[tactic(auto, unfolding(crate::specs::Findings::hidden_text))]
 fn write_hidden(shown: &[u8], hidden: u64, out: &mut Vec<u8>) -> Result<(), AllocError>
     ensures { OnOk result (out.new.items ≡ out.old.items ++ hidden_text shown.now hidden) }
@@ -151,9 +162,7 @@ fn write_hidden(shown: &[u8], hidden: u64, out: &mut Vec<u8>) -> Result<(), Allo
         return Ok(());
     }
     out.extend_from_slice(shown)?;
-    out.extend_from_slice(b": and ")?;
-    write_number(hidden, out)?;
-    out.extend_from_slice(b" more; --all shows them\n")
+    write_more(hidden, out)
 }
 
 /// Appends a line for each fault, or for each of the first, and how many are not written.
@@ -168,6 +177,14 @@ pub(crate) fn write_some<F: Remark>(
 {
     write_lines(shown, written_of(has_all, faults), out)?;
     write_hidden(shown, hidden_of(has_all, faults.len()) as u64, out)
+}
+
+/// Appends the line of a lawful file.
+#[tactic(auto, unfolding(crate::specs::Findings::plain_line))]
+pub(crate) fn write_plain_line(shown: &[u8], out: &mut Vec<u8>) -> Result<(), AllocError>
+    ensures { OnOk result (out.new.items ≡ out.old.items ++ plain_line shown.now) }
+{
+    write_line(shown, None, b"a lawful tree", out)
 }
 
 /// Appends the line of a file that can't be read.

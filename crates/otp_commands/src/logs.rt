@@ -1,6 +1,6 @@
 //! `replay`: the log of a file is read, also one of another program, and what it tells is played on a tree.
 
-ghost use Rattle.std.specs.Prelude.{◌≡◌, ◌==◌, ◌≤◌, count_by, IfOk, IfSome};
+ghost use Rattle.std.specs.Prelude.{◌≡◌, ◌==◌, ◌≤◌, count_by, false, IfOk, IfSome};
 ghost use Rattle.otp_commands.specs.Used.{IsReplayBehind, IsReplayOf, IsReplayOfText};
 ghost use Rattle.otp_exit.specs.Told.{TellsFirst};
 

@@ -4,7 +4,7 @@
 //! faults; that of a file that can't be read has `unread` in the place of `faults`.
 
 ghost use Rattle.std.specs.Prelude.{◌≡◌, ◌++◌, OnOk};
-ghost use Rattle.otp_commands.specs.Findings.{faults_object, file_member, lawful_object, next_object, next_objects, remarks_object, said_object, said_objects, unread_object, warned_object};
+ghost use Rattle.otp_commands.specs.Findings.{faults_object, file_member, lawful_object, list_text, next_object, next_objects, remarks_object, said_object, said_objects, unread_object, warned_object, warning_text};
 
 use otp_check::Remark;
 use otp_json::{put_optional, put_text};
@@ -27,6 +27,17 @@ pub(crate) fn put_lawful_object(name: &[u8], out: &mut Vec<u8>) -> Result<(), Al
     out.extend_from_slice(b", \"faults\": []}\n")
 }
 
+/// Appends what is said of a lawful file all the same, and the end of its object.
+#[tactic(auto, unfolding(crate::specs::Findings::warning_text))]
+fn put_warning(warning: &[u8], out: &mut Vec<u8>) -> Result<(), AllocError>
+    ensures { OnOk result (out.new.items ≡ out.old.items ++ warning_text warning.now) }
+{
+    out.extend_from_slice(b", \"faults\": []")?;
+    put_text(b", ", b"warning", warning, out)?;
+    out.extend_from_slice(b"}\n")?;
+    Ok(())
+}
+
 /// Appends the object of a lawful file of which this is said all the same.
 #[tactic(auto, unfolding(crate::specs::Findings::warned_object))]
 pub(crate) fn put_warned_object(
@@ -37,9 +48,7 @@ pub(crate) fn put_warned_object(
     ensures { OnOk result (out.new.items ≡ out.old.items ++ warned_object name.now warning.now) }
 {
     put_file(name, out)?;
-    out.extend_from_slice(b", \"faults\": []")?;
-    put_text(b", ", b"warning", warning, out)?;
-    out.extend_from_slice(b"}\n")
+    put_warning(warning, out)
 }
 
 /// Appends the object of a file that can't be read.
@@ -99,6 +108,16 @@ fn put_faults<F: Remark>(faults: &[F], out: &mut Vec<u8>) -> Result<(), AllocErr
     }
 }
 
+/// Appends a list of the objects of faults behind this, and the end of the file's object.
+#[tactic(auto, unfolding(crate::specs::Findings::list_text))]
+fn put_list<F: Remark>(front: &[u8], faults: &[F], out: &mut Vec<u8>) -> Result<(), AllocError>
+    ensures { OnOk result (out.new.items ≡ out.old.items ++ list_text F.remarked front.now faults.now) }
+{
+    out.extend_from_slice(front)?;
+    put_faults(faults, out)?;
+    out.extend_from_slice(b"]}\n")
+}
+
 /// Appends the object of a file that has faults.
 #[tactic(auto, unfolding(crate::specs::Findings::faults_object))]
 pub(crate) fn put_fault_object<F: Remark>(
@@ -109,9 +128,8 @@ pub(crate) fn put_fault_object<F: Remark>(
     ensures { OnOk result (out.new.items ≡ out.old.items ++ faults_object F.remarked name.now faults.now) }
 {
     put_file(name, out)?;
-    out.extend_from_slice(b", \"faults\": [")?;
-    put_faults(faults, out)?;
-    out.extend_from_slice(b"]}\n")
+    put_list(b", \"faults\": [", faults, out)?;
+    Ok(())
 }
 
 /// Appends the object of a lawful file on whose tree there are remarks.
@@ -124,7 +142,6 @@ pub(crate) fn put_remark_object<F: Remark>(
     ensures { OnOk result (out.new.items ≡ out.old.items ++ remarks_object F.remarked name.now remarks.now) }
 {
     put_file(name, out)?;
-    out.extend_from_slice(b", \"faults\": [], \"remarks\": [")?;
-    put_faults(remarks, out)?;
-    out.extend_from_slice(b"]}\n")
+    put_list(b", \"faults\": [], \"remarks\": [", remarks, out)?;
+    Ok(())
 }

@@ -1,12 +1,8 @@
 use Rattle.std.proofs.Common.{List, rules, subst, sym}
 use Rattle.otp_check.specs.Checks.{Finds}
 use Rattle.otp_check.specs.declared.finding.Finding.{Finding}
-use Rattle.otp_commands.proofs.Written.{faulty, lawful_when, some_of}
+use Rattle.otp_commands.proofs.Written.{faulty, some_of}
 use Rattle.otp_commands.proofs.checking.check_file.Goals as goal
-
-pub check_remarks-requires-clause-lawful : goal.check_remarks-requires-clause-lawful
-check_remarks-requires-clause-lawful g c =
-    lawful_when c.args.checking c.args.file.now c.in-Ok.findings.items c.in-Ok.ensures (search rules) (search rules)
 
 pub returns : goal.returns
 returns g c =

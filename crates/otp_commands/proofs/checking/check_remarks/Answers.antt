@@ -6,8 +6,8 @@ use Rattle.otp_commands.proofs.checking.check_remarks.Goals as goal
 
 pub returns-in-empty : goal.returns-in-empty
 returns-in-empty g c =
-    lawful_plain c.args.checking c.args.name.now c.args.file.now c.in-Ok.remarks.items c.write_lawful.result (g.W.Output.seen c.args.output.now) (g.W.Output.seen c.write_lawful.new.output)
-    c.requires.lawful c.in-Ok.ensures.any (search rules) (search rules) c.write_lawful.ensures
+    lawful_plain c.args.checking c.args.name.now c.args.file.now c.in-Ok.remarks.items c.write_lawful-in-empty.result (g.W.Output.seen c.args.output.now) (g.W.Output.seen c.write_lawful-in-empty.new.output)
+    c.requires.lawful c.in-Ok.ensures.any (search rules) (search rules) c.write_lawful-in-empty.ensures
 
 pub returns : goal.returns
 returns g c =

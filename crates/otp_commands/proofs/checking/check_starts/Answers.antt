@@ -1,12 +1,8 @@
 use Rattle.std.proofs.Common.{List, rules, subst, sym}
 use Rattle.otp_check_run.specs.Unfit.{FindsUnfit}
 use Rattle.otp_check_run.specs.declared.finding.StartFinding.{StartFinding}
-use Rattle.otp_commands.proofs.Written.{runnable_when, some_of, unfit_for}
+use Rattle.otp_commands.proofs.Written.{some_of, unfit_for}
 use Rattle.otp_commands.proofs.checking.check_starts.Goals as goal
-
-pub check_remarks-requires-clause-lawful : goal.check_remarks-requires-clause-lawful
-check_remarks-requires-clause-lawful g c =
-    runnable_when c.args.checking c.args.file.now c.in-Ok.findings.items c.in-Ok.ensures (search rules) c.requires.starts
 
 pub returns : goal.returns
 returns g c =
