@@ -1,3 +1,4 @@
 pub mod Tellings
+pub mod Pathings
 pub mod Plantings
 pub mod Kept

@@ -1,4 +1,5 @@
 pub mod Clocks
+pub mod Paths
 pub mod Played
 pub mod Steps
 pub mod Next

@@ -1,7 +1,7 @@
 -- A tree that is tried: its supervisors, each with its events so far, and how calls of a trial add to them (own).
-use Rattle.std.specs.Prelude.{◌≡◌, ℕ, ◌<◌, ◌+◌, ◌==◌, Bool, true, false, not, List, [], ◌∷◌, ◌++◌, Option, Some, None, count_by, if◌then◌else◌, is_some, length, position, slice_index_or, slice_set}
+use Rattle.std.specs.Prelude.{◌≡◌, ℕ, ◌<◌, ◌+◌, ◌==◌, Bool, true, false, not, List, [], ◌∷◌, ◌++◌, Option, Some, None, count_by, if◌then◌else◌, is_some, length, map, position, slice_index_or, slice_set}
 use Rattle.std.specs.List.{flat_map, list_any}
-use Rattle.otp_file.specs.Trees.{Table, Tree}
+use Rattle.otp_file.specs.Trees.{Table, Tree, tables_of}
 use Rattle.otp_reason.specs.declared.name.Name.{Name}
 use Rattle.otp_reason.specs.declared.note.Note.TheVariants as note
 use Rattle.otp_reason.specs.declared.reason.Reason.{Reason}
@@ -29,6 +29,7 @@ use Rattle.otp_telling.specs.Strains.{strained_by, unstrained}
 use Rattle.otp_world.specs.Finding.{found_for, state_for}
 use Rattle.otp_world.specs.declared.finding.Found.{Found}
 use Rattle.otp_world.specs.declared.finding.Found.TheVariants as found
+use Rattle.otp_trial.specs.Paths.{paths_of}
 use Rattle.otp_trial.specs.declared.trial.ActionEnd.{ActionEnd}
 use Rattle.otp_trial.specs.declared.trial.ActionEnd.TheVariants as taken
 use Rattle.otp_telling.specs.Starts.{is_of_id, is_start_of, started_by}
@@ -245,6 +246,10 @@ EndsAt place r c old answer new = (seat : Seated) → IsAt old place seat → En
 abbrev pub EndsProcessAt : ℕ → ℕ → Reason → List Seated → ActionEnd → List Seated → Type 0
 EndsProcessAt place p r old answer new = (seat : Seated) → IsAt old place seat → EndsUnless (has_end_waiting seat p) place p r old answer new
 
+-- what stands in front of the names of each one's children
+abbrev pub paths_in : List Seated → List (List ℕ)
+paths_in seats = map (λ seat. seat.path) seats
+
 -- a supervisor for each of these tables, in their order, that was never opened, and is told or not
 abbrev pub ArePlanted : Bool → List Table → List Seated → Type 0
 ArePlanted tells [] [] = Unit {0}
@@ -261,7 +266,7 @@ abbrev pub AddsTree : Bool → List ℕ → Tree → List Seated → List Seated
 AddsTree tells path tree old new =
     (more : List Seated) × (new ≡ old ++ unplayed tells path tree.flags tree.specs ∷ more) × ArePlanted tells tree.below more
 
--- the supervisors of a tree, of which none was ever opened: one for each table, by their numbers; all are told, or of each its
--- ends alone
+-- the supervisors of a tree, of which none was ever opened: one for each table, by their numbers, with the paths of the tree's
+-- walk; all are told, or of each its ends alone
 abbrev pub IsPlanted : Bool → Tree → List Seated → Type 0
-IsPlanted tells tree seats = AddsTree tells [] tree [] seats
+IsPlanted tells tree seats = AddsTree tells [] tree [] seats × (paths_in seats ≡ paths_of [] (tables_of tree))

@@ -1,7 +1,9 @@
 //! The supervisors of a tree, each with its path.
 
-ghost use Rattle.std.specs.Prelude.{◌≡◌, ◌++◌, [], ◌∷◌, true, IfOk, OnOk, map};
-ghost use Rattle.otp_trial.specs.Played.{AddsTree, IsPlanted, fresh, unplayed};
+ghost use Rattle.std.specs.Prelude.{◌≡◌, ◌++◌, [], ◌∷◌, true, ℕ, IfOk, IfSome, OnOk, Some, codes, map, slice_get};
+ghost use Rattle.otp_reason.specs.Names.{name_bytes};
+ghost use Rattle.otp_trial.specs.Paths.{AddsPaths};
+ghost use Rattle.otp_trial.specs.Played.{AddsTree, IsPlanted, fresh, paths_in, unplayed};
 
 use crate::seat::Seat;
 use crate::trial::Halt;
@@ -19,7 +21,9 @@ pub(crate) struct Plants {
 }
 
 /// The path of the children of a child with this id, whose own is this.
-fn path_below(alloc: Global, path: &[u8], id: &Name) -> Result<Vec<u8>, AllocError> {
+fn path_below(alloc: Global, path: &[u8], id: &Name) -> Result<Vec<u8>, AllocError>
+    ensures { IfOk result (λ below. below.items ≡ path.now ++ name_bytes id.now ++ codes "/") }
+{
     let mut below = Vec::new(alloc);
     below.extend_from_slice(path)?;
     below.extend_from_slice(id.as_bytes())?;
@@ -28,7 +32,9 @@ fn path_below(alloc: Global, path: &[u8], id: &Name) -> Result<Vec<u8>, AllocErr
 }
 
 /// The specification of the child that has the tree of this number.
-fn spec_of(supervisor: &SupSpec, nested: &[usize], number: usize) -> Option<ChildSpec> {
+fn spec_of(supervisor: &SupSpec, nested: &[usize], number: usize) -> Option<ChildSpec>
+    ensures { IfSome result (λ spec. (place : ℕ) × (slice_get nested.now number ≡ Some place) × (slice_get supervisor.now.specs place ≡ Some spec)) }
+{
     let place = nested.get(number)?;
     let spec = supervisor.specs().get(*place)?;
     Some(*spec)
@@ -69,17 +75,22 @@ impl Plants {
         link: Link,
         levels: usize,
     ) -> Result<(), Halt>
-        ensures { OnOk result (AddsTree tells path.now tree.now self.old.seats.items self.new.seats.items) }
+        ensures tree { OnOk result (AddsTree tells path.now tree.now self.old.seats.items self.new.seats.items) }
+        ensures paths { OnOk result (AddsPaths path.now tree.now (paths_in self.old.seats.items) (paths_in self.new.seats.items)) }
     {
         // No tree that a file says has more levels.
         let Some(left) = levels.checked_sub(1) else {
             return Err(Halt::OutOfMemory);
         };
+        // And each of its trees is a child's.
+        let trees = tree.trees();
+        let children = tree.nested().len();
+        if trees.len() != children {
+            return Err(Halt::OutOfMemory);
+        }
         let seat = seat_of(alloc, path, tells, tree.supervisor())?;
         let place = self.add(seat, link)?;
-        let trees = tree.trees();
         for number in 0..trees.len() {
-            // Nor one that is no child's.
             let Some(spec) = spec_of(tree.supervisor(), tree.nested(), number) else {
                 return Err(Halt::OutOfMemory);
             };

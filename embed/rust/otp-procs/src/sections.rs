@@ -3,6 +3,8 @@
 
 use std::rc::Rc;
 
+use otp_supervision::brackets;
+
 /// A line, and where it stands.
 #[derive(Clone, Debug, PartialEq, Eq)]
 pub struct Line {
@@ -120,22 +122,6 @@ fn kind_of(text: &str) -> Kind {
             _ => Kind::Other,
         },
     }
-}
-
-/// How many brackets more are opened than closed, outside of strings and in front of a comment.
-fn brackets(line: &str) -> i32 {
-    let (mut depth, mut quote) = (0, None);
-    for c in line.chars() {
-        match (quote, c) {
-            (Some(open), c) if c == open => quote = None,
-            (None, '"' | '\'') => quote = Some(c),
-            (None, '#') => return depth,
-            (None, '[') => depth += 1,
-            (None, ']') => depth -= 1,
-            _ => {}
-        }
-    }
-    depth
 }
 
 #[cfg(test)]

@@ -95,6 +95,8 @@ pub use ids::{CallId, ProcessId, SupervisorId};
 pub use look::{Child, ChildState, EndCause, Limits, Phase, Supervisor};
 pub use name::{BadWord, Name, Reason, Text};
 pub use order::{Cause, End, EndRef, Note, Order, OrderRef, Process, ProcessRef};
+#[doc(hidden)]
+pub use place::brackets;
 pub use spec::{AutoShutdown, ChildSpec, Kind, Modules, Restart, Shutdown, Strategy};
 pub use tree::{ReplyRef, Tree};
 pub use watch::{Became, Last};

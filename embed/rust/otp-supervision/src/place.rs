@@ -82,8 +82,9 @@ fn key_of(line: &str) -> Option<(&str, &str)> {
     (is_whole && !key.contains(['.', '[', ' '])).then_some((key, value))
 }
 
-/// How many brackets more are opened than closed, outside of strings and in front of a comment.
-fn brackets(line: &str) -> i32 {
+/// How many brackets more are opened than closed, outside of strings and in front of a comment. The daemon, which splits such files,
+/// counts by it too.
+pub fn brackets(line: &str) -> i32 {
     let (mut depth, mut quote) = (0, None);
     for c in line.chars() {
         match (quote, c) {
