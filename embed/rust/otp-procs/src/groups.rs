@@ -335,7 +335,7 @@ pub struct Group {
 }
 
 impl Group {
-    /// That of a process which runs.
+    /// The group of a process which runs.
     pub fn left_by(folder: &Path) -> io::Result<Self> {
         let procs = File::options().write(true).open(folder.join("cgroup.procs"))?;
         Ok(Group { folder: folder.to_path_buf(), procs })

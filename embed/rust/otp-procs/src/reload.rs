@@ -42,8 +42,8 @@ pub struct Wish {
 /// What is done once nothing is under way.
 #[derive(Debug)]
 enum Goal {
-    /// These files take the place of those that run.
-    Files(Box<Loaded>),
+    /// These files take the place of those that run; where true, what would run otherwise is restarted.
+    Files(Box<Loaded>, bool),
     /// The program is replaced.
     Program,
 }
@@ -54,6 +54,8 @@ pub(crate) struct Reload {
     token: u64,
     goal: Goal,
     steps: Steps,
+    /// They are those of children that neither start nor stop.
+    is_settled: bool,
     within: u64,
     /// It is given up at this reading, if something is under way still.
     until: u64,
@@ -87,7 +89,7 @@ impl Daemon {
             let now = os::monotonic_microseconds();
             manager.tell(&format!("RELOADING=1\nMONOTONIC_USEC={now}\nSTATUS=Reads its files anew"));
         }
-        let goal = Goal::Files(Box::new(loaded));
+        let goal = Goal::Files(Box::new(loaded), wish.restarts);
         self.reload = Some(Reload::new(token, goal, steps, wish.within.as_millis() as u64, self.now()));
         self.reload_on();
     }
@@ -205,6 +207,9 @@ impl Daemon {
                     }
                     return;
                 }
+                if let Err(text) = self.settle_steps() {
+                    return self.reload_ends(Some(&text));
+                }
                 if let Some((supervisor, kind, path)) = self.next_stop() {
                     self.reload_call(supervisor, kind, path);
                 } else if let Err(text) = self.exchange() {
@@ -217,6 +222,23 @@ impl Daemon {
                 }
             }
         }
+    }
+
+    /// What is to be done is found anew once, when nothing is under way: a supervisor that was being started has its children by then.
+    fn settle_steps(&mut self) -> Result<(), String> {
+        let Some(reload) = self.reload.as_ref().filter(|reload| !reload.is_settled) else { return Ok(()) };
+        let steps = match &reload.goal {
+            Goal::Program => None,
+            Goal::Files(loaded, restarts) => {
+                let old = Side { shapes: &self.shapes, plans: &self.plans };
+                Some(steps_between(old, loaded.side(), &self.standing(), *restarts)?)
+            }
+        };
+        if let Some(reload) = &mut self.reload {
+            reload.is_settled = true;
+            reload.steps = steps.unwrap_or_default();
+        }
+        Ok(())
     }
 
     /// Nothing is under way: each child is up, or has no process, and nobody waits for the answer of a call.
@@ -308,11 +330,11 @@ impl Daemon {
     /// The new files take the place of those that run. Nothing is changed where that is refused.
     fn exchange(&mut self) -> Result<(), String> {
         let Some(reload) = &self.reload else { return Ok(()) };
-        let Goal::Files(loaded) = &reload.goal else { return Err(self.replace_program(reload.token)) };
+        let Goal::Files(loaded, _) = &reload.goal else { return Err(self.replace_program(reload.token)) };
         let is_new = reload.steps.is_new_tree;
         let opened = if is_new { Some(self.open_anew(loaded, &reload.steps)?) } else { None };
         let Some(mut reload) = self.reload.take() else { return Ok(()) };
-        let Goal::Files(loaded) = &mut reload.goal else { return Ok(()) };
+        let Goal::Files(loaded, _) = &mut reload.goal else { return Ok(()) };
         self.plans = std::mem::take(&mut loaded.files.plans);
         self.keeper.after = std::mem::take(&mut loaded.needs.after);
         if let Some(opened) = opened {
@@ -389,6 +411,7 @@ impl Reload {
             token,
             goal,
             steps,
+            is_settled: false,
             within,
             until: now.saturating_add(within),
             told_at: Some(now.saturating_add(LONG)),

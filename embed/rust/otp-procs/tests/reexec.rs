@@ -107,6 +107,7 @@ fn no_byte_of_a_process_is_lost_or_cut() {
         reexec(&daemon);
         wait_until("it talks on", || said().len() > before + 20);
     }
+    wait_until("both have said enough", || daemon.read("out").lines().count() > 120 && said().len() > 120);
     let (file, log) = (daemon.read("out"), said());
     let mut lines: Vec<String> = file.lines().map(str::to_string).collect();
     lines.pop();

@@ -157,6 +157,7 @@ fn another_command_counts_at_the_next_start_or_by_a_restart() {
     assert_eq!(reload(&daemon, &[]), "later   a: command, env\nlater   b: command\n");
     send(after["b"], KILL);
     wait_until("it is restarted", || status(&daemon).1.get("b").is_some_and(|pid| *pid != after["b"]));
+    assert!(daemon.ctl(&["wait", "b", "up"]).0);
     assert_eq!(command(status(&daemon).1["b"]), b"sleep\x001002\0");
     end(daemon);
 }
