@@ -9,18 +9,18 @@ _otp() {
         --clock) COMPREPLY=($(compgen -W "milliseconds seconds" -- "$word")); return ;;
     esac
     case $command in
-        check) options="--run --all --json --help" ;;
+        check) options="--run --lint --all --json --help" ;;
         diff) options="--help" ;;
         import) options="--commands --help" ;;
         limits) options="--child --table --each --json --html --help" ;;
-        replay) options="--unmatched --timeline --quiet --clock --width --help" ;;
+        replay) options="--unmatched --timeline --quiet --clock --width --ids --strict --help" ;;
         run) options="--schedulers --turns --counts --tree --why --for --grace --log --json --help" ;;
         shutdown) options="--help" ;;
         sim) options="--help" ;;
         suggest) options="--child --every --help" ;;
         tree) options="--html --help" ;;
         try) options="--prompt --timeline --quiet --clock --width --json --html --help" ;;
-        help) COMPREPLY=($(compgen -W "check diff import limits replay run shutdown sim suggest tree try script lines" -- "$word")); return ;;
+        help) COMPREPLY=($(compgen -W "check diff import limits replay run shutdown sim suggest tree try script lines otp" -- "$word")); return ;;
     esac
     case $word in
         -*) COMPREPLY=($(compgen -W "$options" -- "$word")) ;;

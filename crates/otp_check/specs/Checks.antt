@@ -6,6 +6,7 @@ use Rattle.otp_file.specs.Files.{Says, IsToml}
 use Rattle.otp_file.specs.Trees.{Tree}
 use Rattle.otp_check.specs.declared.finding.Finding.{Finding}
 use Rattle.otp_check.specs.declared.parts.Found.{Found}
+use Rattle.otp_check.specs.Texts.{Remarked}
 
 -- the first fault of the file's document, or that it is no document
 abbrev pub IsFirstFault : TreeFault → List ℕ → Type 0
@@ -30,3 +31,7 @@ Puts one old new =
 -- the same of one with this fault and this text
 abbrev pub Holds : TreeFault → List ℕ → Found → Found → Type 0
 Holds why text old new = (held : Finding) × (held.fault ≡ why) × (held.text.items ≡ text) × Puts held old new
+
+-- what a finding says
+abbrev pub remarked : Finding → Remarked
+remarked finding = record { line = finding.line; text = finding.text.items }

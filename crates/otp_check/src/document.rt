@@ -3,8 +3,7 @@
 ghost use Rattle.std.specs.Prelude.{◌≡◌, IfOk};
 ghost use Rattle.otp_check.specs.Checks.{BeginsWith, Finds};
 
-use crate::advice::what_unlawful;
-use crate::finding::{Finding, of_table, said_at};
+use crate::finding::{Finding, of_table, of_text};
 use crate::owner::Owner;
 use crate::parts::{Found, scan};
 use otp_file::{TableFault, TreeFault, read_located};
@@ -81,7 +80,7 @@ fn only_text(
     let mut place = text_of(alloc, error)?;
     write_strange(rest_of(file, error), &mut place)?;
     let what = what_no_toml(error.message(), file, rest_of(file, error));
-    let finding = said_at(alloc, fault, place.as_slice(), what.as_bytes())?;
+    let finding = of_text(alloc, fault, place.as_slice(), what.as_bytes())?;
     put_first(finding.on_line(Some(line_of(file, error))), Vec::new(alloc))
 }
 
@@ -132,18 +131,9 @@ fn rest_of<'a>(file: &'a [u8], error: &toml::de::Error) -> &'a [u8] {
 fn first_of(alloc: Global, fault: TreeFault, found: Option<Finding>) -> Result<Finding, AllocError>
     ensures { IfOk result (λ first. first.fault ≡ fault) }
 {
-    let Some(found) = found else {
-        return of_table(alloc, fault, &Owner::Supervisor(b""), what_unlawful(&fault));
-    };
-    let first = said_at(alloc, fault, behind_number(found.text.as_slice()), b"")?;
-    Ok(first.on_line(found.line))
-}
-
-/// What stands in the text of a finding behind the number of its fault.
-fn behind_number(text: &[u8]) -> &[u8] {
-    match text.iter().position(|byte| *byte == b':') {
-        Some(place) => text.get(place.saturating_add(2)..).unwrap_or(b""),
-        None => b"",
+    match found {
+        Some(found) if found.fault == fault => Ok(found),
+        _ => of_table(alloc, fault, &Owner::Supervisor(b"")),
     }
 }
 

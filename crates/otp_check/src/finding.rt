@@ -1,8 +1,12 @@
 //! A fault that was found, and the words for it.
 
 ghost use Rattle.std.specs.Prelude.{ℕ, List, ◌≡◌, ◌++◌, IfOk, OnOk};
-ghost use Rattle.otp_check.specs.Texts.{IsSaid, head_text, told};
+ghost use Rattle.otp_check.specs.Advice.{remedy_text};
+ghost use Rattle.otp_check.specs.Texts.{IsSaid, Remarked, head_text, told};
+ghost use Rattle.otp_file.specs.declared.fault.TreeFault.TheVariants.{Unlawful};
+ghost use Rattle.otp_spec.specs.declared.fault.SpecFault.TheVariants.{SimpleNeedsOne};
 
+use crate::advice::{is_detailed, no_only_child, remedy};
 use crate::owner::{Owner, write_owner};
 use crate::shown::{write_shown, write_value};
 use otp_file::{ChildKey, FlagKey, TreeFault};
@@ -11,6 +15,7 @@ use otp_hints::{
     strange_letter, what_value, words_at, write_allowed, write_letter,
 };
 use otp_reason::NAME_SIZE;
+use otp_spec::SpecFault;
 use otp_text::write_number;
 use std::alloc::{AllocError, Global};
 use toml::Value;
@@ -27,7 +32,7 @@ pub struct Finding {
     pub line: Option<u64>,
     /// Where it is, what was read there, and what is allowed: one line, without its end.
     pub text: Vec<u8>,
-    ghost said: { IsSaid fault text.items },
+    ghost said: { ∥ IsSaid fault text.items ∥₁ },
 }
 
 impl Finding {
@@ -43,14 +48,23 @@ impl Finding {
 
 /// What is said of a file: on which line of it, and in which words.
 pub trait Remark {
+    /// Both.
+    ghost remarked: { Self → Remarked };
+
     /// The line, from 1, where it is known.
-    fn line(&self) -> Option<u64>;
+    fn line(&self) -> Option<u64>
+        ensures { result ≡ (remarked self.now).line };
 
     /// One line of text, without its end.
-    fn text(&self) -> &[u8];
+    fn text(&self) -> &[u8]
+        ensures { result.now ≡ (remarked self.now).text };
 }
 
 impl Remark for Finding {
+    ghost use Rattle.otp_check.specs.Checks.{remarked};
+
+    ghost remarked = { remarked };
+
     fn line(&self) -> Option<u64> {
         self.line
     }
@@ -85,37 +99,18 @@ fn headed(
     Ok(text)
 }
 
-/// What is said of a fault at a place.
-pub(crate) fn said_at(
+/// What is said of a fault of a table: its number, where the table is, and this.
+fn text_of(
     alloc: Global,
-    fault: TreeFault,
-    place: &[u8],
-    rest: &[u8],
-) -> Result<Finding, AllocError>
-    ensures fault { IfOk result (λ finding. finding.fault ≡ fault) }
-    ensures text { IfOk result (λ finding. finding.text.items ≡ head_text fault ++ (place.now ++ rest.now)) }
-{
-    let text = headed(alloc, &fault, place, rest)?;
-    Ok(Finding {
-        fault,
-        line: None,
-        text,
-    })
-}
-
-/// What is said of a fault of a table.
-fn said_of(
-    alloc: Global,
-    fault: TreeFault,
+    fault: &TreeFault,
     owner: &Owner<'_>,
     rest: &[u8],
-) -> Result<Finding, AllocError>
-    ensures fault { IfOk result (λ finding. finding.fault ≡ fault) }
-    ensures text { IfOk result (λ finding. (place : List ℕ) × (finding.text.items ≡ head_text fault ++ (place ++ rest.now))) }
+) -> Result<Vec<u8>, AllocError>
+    ensures { IfOk result (λ text. (place : List ℕ) × (text.items ≡ head_text fault.now ++ (place ++ rest.now))) }
 {
     let mut place = Vec::new(alloc);
     write_owner(owner, &mut place)?;
-    said_at(alloc, fault, place.as_slice(), rest)
+    headed(alloc, fault, place.as_slice(), rest)
 }
 
 /// Appends a text between two others.
@@ -137,14 +132,73 @@ pub(crate) fn of_table(
     alloc: Global,
     fault: TreeFault,
     owner: &Owner<'_>,
-    what: &str,
 ) -> Result<Finding, AllocError>
     ensures fault { IfOk result (λ finding. finding.fault ≡ fault) }
-    ensures text { IfOk result (λ finding. (place : List ℕ) × (finding.text.items ≡ head_text fault ++ (place ++ told what.now))) }
+    ensures text { IfOk result (λ finding. (place : List ℕ) × (finding.text.items ≡ head_text fault ++ (place ++ told (remedy_text fault)))) }
 {
     let mut rest = Vec::new(alloc);
-    write_between(b": ", what.as_bytes(), b"", &mut rest)?;
-    said_of(alloc, fault, owner, rest.as_slice())
+    write_between(b": ", remedy(&fault).as_bytes(), b"", &mut rest)?;
+    let text = text_of(alloc, &fault, owner, rest.as_slice())?;
+    Ok(Finding {
+        fault,
+        line: None,
+        text,
+    })
+}
+
+/// A supervisor of simple_one_for_one whose one child has a tree.
+pub(crate) fn of_only_child(alloc: Global, owner: &Owner<'_>) -> Result<Finding, AllocError>
+    ensures { IfOk result (λ finding. finding.fault ≡ Unlawful SimpleNeedsOne) }
+{
+    let fault = TreeFault::Unlawful(SpecFault::SimpleNeedsOne);
+    let mut rest = Vec::new(alloc);
+    write_between(b": ", no_only_child().as_bytes(), b"", &mut rest)?;
+    let text = text_of(alloc, &fault, owner, rest.as_slice())?;
+    Ok(Finding {
+        fault,
+        line: None,
+        text,
+    })
+}
+
+/// A text that is no document: why, and what to do.
+pub(crate) fn of_text(
+    alloc: Global,
+    fault: TreeFault,
+    place: &[u8],
+    rest: &[u8],
+) -> Result<Finding, AllocError>
+    ensures { IfOk result (λ finding. finding.fault ≡ fault) }
+{
+    if !is_detailed(&fault) {
+        return of_table(alloc, fault, &Owner::Supervisor(b""));
+    }
+    let text = headed(alloc, &fault, place, rest)?;
+    Ok(Finding {
+        fault,
+        line: None,
+        text,
+    })
+}
+
+/// A fault of a table, with what was read there.
+fn of_read(
+    alloc: Global,
+    fault: TreeFault,
+    owner: &Owner<'_>,
+    rest: &[u8],
+) -> Result<Finding, AllocError>
+    ensures { IfOk result (λ finding. finding.fault ≡ fault) }
+{
+    if !is_detailed(&fault) {
+        return of_table(alloc, fault, owner);
+    }
+    let text = text_of(alloc, &fault, owner, rest)?;
+    Ok(Finding {
+        fault,
+        line: None,
+        text,
+    })
 }
 
 /// A fault at a key that may not stand in its table. Behind those that may stands the one that was meant; or of a key that a
@@ -163,7 +217,7 @@ pub(crate) fn of_unknown(
     write_shown(key, &mut rest)?;
     write_keys(keys, &mut rest)?;
     write_meant_key(alloc, owner, key, keys, &mut rest)?;
-    said_of(alloc, fault, owner, rest.as_slice())
+    of_read(alloc, fault, owner, rest.as_slice())
 }
 
 /// A fault of the value at a key.
@@ -189,7 +243,7 @@ pub(crate) fn of_value(
     rest.extend_from_slice(what_value(key, value).as_bytes())?;
     write_header(owner, key, value, &mut rest)?;
     write_count(key, value, &mut rest)?;
-    said_of(alloc, fault, owner, rest.as_slice())
+    of_read(alloc, fault, owner, rest.as_slice())
 }
 
 /// Appends which letter of a word isn't plain, the first where there are more.

@@ -3,8 +3,8 @@
 ghost use Rattle.std.specs.Prelude.{◌≡◌, ◌+◌, ◌-◌, ◌^◌, ◌==◌, OnOk, min};
 ghost use Rattle.otp_check.specs.Checks.{Holds, Puts};
 
-use crate::advice::{key_to_blame, what_lacks, what_simple, what_unlawful};
-use crate::finding::{Finding, of_table, of_unknown, of_value};
+use crate::advice::key_to_blame;
+use crate::finding::{Finding, of_only_child, of_table, of_unknown, of_value};
 use crate::judging::{judge_child, judge_count, judge_flag, judge_key, judge_names, tree_of};
 use crate::owner::{Owner, write_child};
 use crate::places::{moved_to, place_of};
@@ -96,14 +96,16 @@ impl Scanning<'_> {
     }
 
     /// A fault of a whole table is found.
-    fn add_of_table(
-        &mut self,
-        fault: TreeFault,
-        place: &Place<'_>,
-        what: &str,
-    ) -> Result<(), AllocError> {
-        let finding = of_table(self.alloc, fault, &place.owner, what)?;
+    fn add_of_table(&mut self, fault: TreeFault, place: &Place<'_>) -> Result<(), AllocError> {
+        let finding = of_table(self.alloc, fault, &place.owner)?;
         self.add(self.line_at(place.part, key_to_blame(&fault)), finding)
+    }
+
+    /// The one child under simple_one_for_one has a tree.
+    fn add_of_only_child(&mut self, place: &Place<'_>) -> Result<(), AllocError> {
+        let finding = of_only_child(self.alloc, &place.owner)?;
+        let key = key_to_blame(&finding.fault);
+        self.add(self.line_at(place.part, key), finding)
     }
 
     /// The value at a key of a supervisor.
@@ -169,15 +171,13 @@ impl Scanning<'_> {
         child: &Table,
     ) -> Result<(), AllocError> {
         if let Some(fault) = judge_names(self.alloc, child)? {
-            let what = what_lacks(&fault);
-            self.add_of_table(moved_to(fault, index), place, what)?;
+            self.add_of_table(moved_to(fault, index), place)?;
         }
         let Some(fault) = judge_child(self.alloc, auto_shutdown, child)? else {
             return Ok(());
         };
         if self.is_of_whole(&fault, child)? {
-            let what = what_unlawful(&fault);
-            self.add_of_table(moved_to(fault, index), place, what)?;
+            self.add_of_table(moved_to(fault, index), place)?;
         }
         Ok(())
     }
@@ -222,7 +222,7 @@ impl Scanning<'_> {
         let place = self.place_of_child(within, index, value);
         let Some(child) = value.as_table() else {
             let fault = TreeFault::WrongKind(FaultPlace::Child(index));
-            return self.add_of_table(fault, &place, "no table; each child is one, [[child]]");
+            return self.add_of_table(fault, &place);
         };
         for (key, value) in child.iter() {
             self.scan_key(index, &place, key.as_str(), value)?;
@@ -264,8 +264,7 @@ impl Scanning<'_> {
             return Ok(());
         }
         let fault = TreeFault::Unlawful(SpecFault::DuplicateId { index });
-        let what = "an earlier child has this id; each id stands once";
-        self.add_of_table(fault, &self.place_of_child(within, index, value), what)
+        self.add_of_table(fault, &self.place_of_child(within, index, value))
     }
 
     /// How many children there are.
@@ -276,15 +275,18 @@ impl Scanning<'_> {
         children: &[Value],
     ) -> Result<(), AllocError> {
         match judge_count(self.alloc, strategy, children)? {
+            Some(TreeFault::Unlawful(SpecFault::SimpleNeedsOne)) if children.len() == 1 => {
+                self.add_of_only_child(place)
+            }
             Some(fault @ TreeFault::Unlawful(SpecFault::SimpleNeedsOne)) => {
-                self.add_of_table(fault, place, what_simple(children.len()))
+                self.add_of_table(fault, place)
             }
             Some(fault @ TreeFault::Unlawful(SpecFault::TooManyChildren)) => {
                 let first_too_many = Place {
                     owner: place.owner,
                     part: self.part_of_child(place.part, MAX_CHILDREN),
                 };
-                self.add_of_table(fault, &first_too_many, what_unlawful(&fault))
+                self.add_of_table(fault, &first_too_many)
             }
             _ => Ok(()),
         }
@@ -306,7 +308,7 @@ impl Scanning<'_> {
     /// A table that isn't looked at, since there may be none: the tree is refused for it, or for one before it.
     fn refuse_table(&mut self, within: &Within<'_>, fault: TreeFault) -> Result<(), AllocError> {
         if self.is_refused_here() && self.why.fault == fault {
-            return self.add_of_table(fault, &within.place(), what_unlawful(&fault));
+            return self.add_of_table(fault, &within.place());
         }
         Ok(())
     }

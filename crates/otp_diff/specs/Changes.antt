@@ -3,7 +3,7 @@ use Rattle.std.specs.Prelude.{ℕ, Bool, true, false, List, [], ◌∷◌, ◌++
 use Rattle.std.specs.List.{flat_map}
 use Rattle.std.specs.Ordering.{on}
 use Rattle.std.specs.Str.{bytes_eq}
-use Rattle.otp_folds.specs.Groups.{below}
+use Rattle.otp_costs.specs.Groups.{below}
 use Rattle.otp_limits.specs.Falls.{supervisor_path}
 use Rattle.otp_reason.specs.Names.{name_bytes}
 use Rattle.otp_reason.specs.declared.name.Name.{Name}

@@ -3,10 +3,10 @@ use Rattle.std.specs.Prelude.{ℕ, Bool, true, false, List, [], ◌∷◌, ◌++
 use Rattle.std.specs.List.{filter_map, flat_map, list_any}
 use Rattle.std.specs.Ordering.{on}
 use Rattle.std.specs.Str.{bytes_eq}
-use Rattle.otp_folds.specs.Groups.{below}
-use Rattle.otp_folds.specs.Table.{alike_text, root_text}
-use Rattle.otp_folds.specs.Words.{burst_text, interval_text}
-use Rattle.otp_folds.specs.declared.rows.Row.{Row}
+use Rattle.otp_costs.specs.Groups.{below}
+use Rattle.otp_costs.specs.Table.{alike_text, root_text}
+use Rattle.otp_costs.specs.Words.{burst_text, interval_text}
+use Rattle.otp_costs.specs.declared.rows.Row.{Row}
 use Rattle.otp_limits.specs.declared.fate.Fate.{Fate}
 use Rattle.otp_reason.specs.Names.{name_bytes}
 use Rattle.otp_reason.specs.declared.name.Name.{Name}

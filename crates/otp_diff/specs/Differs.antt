@@ -1,10 +1,10 @@
 -- What differs in two trees (own).
 use Rattle.std.specs.Prelude.{◌≡◌, ℕ, true, List, [], ◌∷◌, ◌++◌, codes}
 use Rattle.otp_file.specs.Trees.{Tree}
-use Rattle.otp_folds.specs.Rows.{AreRows}
-use Rattle.otp_folds.specs.declared.alike.Grain.TheVariants.{Alike}
-use Rattle.otp_folds.specs.declared.pick.Pick.TheVariants.{All}
-use Rattle.otp_folds.specs.declared.rows.Row.{Row}
+use Rattle.otp_costs.specs.Rows.{AreRows}
+use Rattle.otp_costs.specs.declared.alike.Grain.TheVariants.{Alike}
+use Rattle.otp_costs.specs.declared.pick.Pick.TheVariants.{All}
+use Rattle.otp_costs.specs.declared.rows.Row.{Row}
 use Rattle.otp_trial.specs.Played.{IsPlanted, Seated}
 use Rattle.otp_diff.specs.Changes.{changes_text}
 use Rattle.otp_diff.specs.Costs.{costs_text}

@@ -2,13 +2,13 @@
 
 ghost use Rattle.std.specs.Prelude.{◌≡◌, ◌++◌, IfOk, OnOk, codes};
 ghost use Rattle.std.specs.List.{list_any};
-ghost use Rattle.otp_folds.specs.Table.{alike_text};
-ghost use Rattle.otp_folds.specs.Words.{burst_text, interval_text};
+ghost use Rattle.otp_costs.specs.Table.{alike_text};
+ghost use Rattle.otp_costs.specs.Words.{burst_text, interval_text};
 ghost use Rattle.otp_diff.specs.Changes.{change_text};
 ghost use Rattle.otp_diff.specs.Costs.{affected_text, common, costs_text, counted_text, crash_title, ended_text, is_name, name_if, named_text, numbers_text, row_text, rows_if, rows_text, survived_text};
 
 use crate::change::{Words, is_same, write_change, write_number_change};
-use otp_folds::{Row, write_burst, write_interval, write_root};
+use otp_costs::{Row, write_burst, write_interval, write_root};
 use otp_limits::{Fate, Listed, Steady};
 use otp_reason::Name;
 use otp_text::write_number;
@@ -203,7 +203,7 @@ fn find_common(alloc: Global, news: &[Name], olds: &[Name]) -> Result<Listed<Nam
 }
 
 /// Appends how many children fare so, where it is more than one.
-#[tactic(auto, unfolding(otp_folds::specs::Table::alike_text))]
+#[tactic(auto, unfolding(otp_costs::specs::Table::alike_text))]
 fn write_alike(count: usize, out: &mut Vec<u8>) -> Result<(), AllocError>
     ensures { OnOk result (out.new.items ≡ out.old.items ++ alike_text count) }
 {

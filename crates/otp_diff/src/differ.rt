@@ -6,8 +6,8 @@ ghost use Rattle.otp_diff.specs.Differs.{Differs, children_or_none, costs_or_non
 use crate::change::Words;
 use crate::cost::write_costs;
 use crate::seat::write_changes;
+use otp_costs::{Grain, Pick, Row, find_rows};
 use otp_file::TreeSpec;
-use otp_folds::{Grain, Pick, Row, find_rows};
 use otp_trial::{Halt, Seat, plant_seats};
 use std::alloc::{AllocError, Global};
 

@@ -2,7 +2,7 @@
 
 ghost use Rattle.std.specs.Prelude.{◌≡◌, ◌<◌, ◌++◌, IfSome, OnOk, is_some, length, position};
 ghost use Rattle.std.specs.List.{flat_map};
-ghost use Rattle.otp_folds.specs.Groups.{below};
+ghost use Rattle.otp_costs.specs.Groups.{below};
 ghost use Rattle.otp_limits.specs.Falls.{supervisor_path};
 ghost use Rattle.otp_diff.specs.Changes.{at_place, changes_text, child_text, entry_if, entry_text, has_id, has_path, is_there, new_if, new_seat_if, new_seat_text, new_text, order_change_text, order_text, pair_text, seat_pair_text, seat_text, supervisor_text};
 

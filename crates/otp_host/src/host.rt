@@ -1,6 +1,6 @@
 //! The system that the program is run on.
 
-use otp_ending::{LARGEST_FILE, LARGEST_TREE, TreeFiles, Unwritten};
+use otp_exit::{LARGEST_FILE, LARGEST_TREE, TreeFiles, Unwritten};
 use otp_sim::Counted;
 use std::alloc::Global;
 use std::env::VarError;

@@ -2,11 +2,11 @@
 use Rattle.std.specs.Prelude.{◌≡◌, ℕ, ◌==◌, Bool, true, false, List, [], ◌∷◌, ◌++◌, codes, decimal, if◌then◌else◌}
 use Rattle.std.specs.List.{flat_map}
 use Rattle.otp_file.specs.Trees.{Tree}
-use Rattle.otp_folds.specs.Rows.{AreRows}
-use Rattle.otp_folds.specs.Told.{is_all}
-use Rattle.otp_folds.specs.declared.alike.Grain.{Grain}
-use Rattle.otp_folds.specs.declared.pick.Pick.{Pick}
-use Rattle.otp_folds.specs.declared.rows.Row.{Row}
+use Rattle.otp_costs.specs.Rows.{AreRows}
+use Rattle.otp_costs.specs.Told.{is_all}
+use Rattle.otp_costs.specs.declared.alike.Grain.{Grain}
+use Rattle.otp_costs.specs.declared.pick.Pick.{Pick}
+use Rattle.otp_costs.specs.declared.rows.Row.{Row}
 use Rattle.otp_json.specs.Values.{key_text, text_member}
 use Rattle.otp_limits.specs.declared.fate.Fate.{Fate}
 use Rattle.otp_limits.specs.declared.fate.Fate.TheVariants as fate

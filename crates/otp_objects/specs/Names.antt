@@ -1,7 +1,7 @@
 -- Lists of names as arrays of JSON (own).
 use Rattle.std.specs.Prelude.{ℕ, List, [], ◌∷◌, ◌++◌, codes}
 use Rattle.std.specs.List.{flat_map}
-use Rattle.otp_folds.specs.Groups.{below}
+use Rattle.otp_costs.specs.Groups.{below}
 use Rattle.otp_json.specs.Values.{json_text}
 use Rattle.otp_reason.specs.declared.name.Name.{Name}
 

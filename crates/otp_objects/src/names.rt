@@ -2,7 +2,7 @@
 
 ghost use Rattle.std.specs.Prelude.{◌≡◌, ◌++◌, OnOk};
 ghost use Rattle.std.specs.List.{flat_map};
-ghost use Rattle.otp_folds.specs.Groups.{below};
+ghost use Rattle.otp_costs.specs.Groups.{below};
 ghost use Rattle.otp_objects.specs.Names.{name_text, names_text, next_name, next_path, paths_text};
 
 use otp_json::put_json_text;

@@ -2,14 +2,14 @@
 use Rattle.std.specs.Prelude.{◌≡◌, ℕ, ◌==◌, min, Bool, true, false, List, [], ◌∷◌, ◌++◌, codes, decimal, length, nat_le, if◌then◌else◌}
 use Rattle.std.specs.List.{flat_map}
 use Rattle.otp_file.specs.Trees.{Tree}
-use Rattle.otp_folds.specs.Groups.{below}
-use Rattle.otp_folds.specs.Rows.{AreRows}
-use Rattle.otp_folds.specs.Table.{root_text}
-use Rattle.otp_folds.specs.Told.{is_all}
-use Rattle.otp_folds.specs.Words.{burst_text, gone_text, interval_text}
-use Rattle.otp_folds.specs.declared.alike.Grain.{Grain}
-use Rattle.otp_folds.specs.declared.pick.Pick.{Pick}
-use Rattle.otp_folds.specs.declared.rows.Row.{Row}
+use Rattle.otp_costs.specs.Groups.{below}
+use Rattle.otp_costs.specs.Rows.{AreRows}
+use Rattle.otp_costs.specs.Table.{root_text}
+use Rattle.otp_costs.specs.Told.{is_all}
+use Rattle.otp_costs.specs.Words.{burst_text, gone_text, interval_text}
+use Rattle.otp_costs.specs.declared.alike.Grain.{Grain}
+use Rattle.otp_costs.specs.declared.pick.Pick.{Pick}
+use Rattle.otp_costs.specs.declared.rows.Row.{Row}
 use Rattle.otp_html.specs.Frame.{foot_text, head_text}
 use Rattle.otp_html.specs.Markup.{element}
 use Rattle.otp_limits.specs.Falls.{supervisor_path}

@@ -1,7 +1,7 @@
 -- Names of children and supervisors in a page (own).
 use Rattle.std.specs.Prelude.{ℕ, List, [], ◌∷◌, ◌++◌, codes}
 use Rattle.std.specs.List.{flat_map}
-use Rattle.otp_folds.specs.Groups.{below}
+use Rattle.otp_costs.specs.Groups.{below}
 use Rattle.otp_html.specs.Markup.{element}
 use Rattle.otp_reason.specs.declared.name.Name.{Name}
 

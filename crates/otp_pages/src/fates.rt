@@ -1,11 +1,11 @@
 //! How a supervisor fares, in a page.
 
 ghost use Rattle.std.specs.Prelude.{◌≡◌, ◌++◌, OnOk, codes};
-ghost use Rattle.otp_folds.specs.Words.{gone_text};
+ghost use Rattle.otp_costs.specs.Words.{gone_text};
 ghost use Rattle.otp_pages.specs.Costs.{bar_ground, bar_html, bar_of, bar_opening, burst_cell, clock_cell, full_unless, gives_up_html, giver_cell, interval_cell, root_cell};
 
 use crate::names::{put_path, put_paths};
-use otp_folds::{Row, write_burst, write_interval, write_root};
+use otp_costs::{Row, write_burst, write_interval, write_root};
 use otp_limits::{Fate, supervisor_path};
 use otp_text::write_number;
 use std::alloc::AllocError;
@@ -96,7 +96,7 @@ pub(crate) fn put_intervals(row: &Row, out: &mut Vec<u8>) -> Result<(), AllocErr
 }
 
 /// Appends who gives up after the burst of a child that is gone then, or never ran.
-#[tactic(auto, unfolding(otp_folds::specs::Words::gone_text))]
+#[tactic(auto, unfolding(otp_costs::specs::Words::gone_text))]
 fn put_gone(count: u64, out: &mut Vec<u8>) -> Result<(), AllocError>
     ensures { OnOk result (out.new.items ≡ out.old.items ++ gone_text count (codes "<small>isn't up</small>") (codes "<small>nobody</small>")) }
 {

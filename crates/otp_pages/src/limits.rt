@@ -4,8 +4,8 @@ ghost use Rattle.std.specs.Prelude.{◌≡◌, ◌++◌, [], true, IfOk, OnErr, 
 ghost use Rattle.otp_pages.specs.Costs.{TellsLimits, TellsRows, is_none, limits_legend, limits_page, limits_titles};
 
 use crate::row::put_rows;
+use otp_costs::{Grain, Pick, Row, find_rows};
 use otp_file::TreeSpec;
-use otp_folds::{Grain, Pick, Row, find_rows};
 use otp_html::{put_foot, put_head};
 use otp_trial::Halt;
 use std::alloc::{AllocError, Global};

@@ -2,7 +2,7 @@
 
 ghost use Rattle.std.specs.Prelude.{◌≡◌, ◌++◌, OnOk};
 ghost use Rattle.std.specs.List.{flat_map};
-ghost use Rattle.otp_folds.specs.Groups.{below};
+ghost use Rattle.otp_costs.specs.Groups.{below};
 ghost use Rattle.otp_pages.specs.Names.{name_html, names_html, next_name, next_path, path_html, paths_html, some_paths};
 
 use otp_html::put_element;

@@ -6,7 +6,7 @@ ghost use Rattle.otp_pages.specs.Costs.{affected_cell, affected_cells, alike_htm
 
 use crate::fates::{put_burst, put_giver, put_intervals, put_root};
 use crate::names::{put_below, put_names};
-use otp_folds::Row;
+use otp_costs::Row;
 use otp_html::put_element;
 use otp_reason::Name;
 use otp_text::write_number;

@@ -3,11 +3,11 @@
 
 mod screen;
 
+use otp_cli::words_of;
+use otp_command_run::{Pool, run_with};
 use otp_host::System;
 use otp_live::LogLines;
-use otp_running::{Pool, run_with};
 use otp_sim::Counted;
-use otp_words::words_of;
 use screen::Screen;
 use std::process::ExitCode;
 

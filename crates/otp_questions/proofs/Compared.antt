@@ -3,7 +3,7 @@ use Rattle.std.proofs.Common.{ℕ, List, refl}
 use Rattle.otp_sim.specs.Devices.{Written}
 use Rattle.otp_trial.specs.declared.trial.Halt.{Halt}
 use Rattle.otp_trial.specs.declared.trial.Halt.TheVariants as halt
-use Rattle.otp_ending.specs.Devices.{HasTree}
+use Rattle.otp_exit.specs.Devices.{HasTree}
 use Rattle.otp_questions.specs.Compared.{IsCompared}
 use Rattle.otp_questions.specs.Limited.{ending_of_halt}
 

@@ -6,9 +6,9 @@ use Rattle.otp_sim.specs.Devices.{Written}
 use Rattle.otp_diff.specs.Differs.{Differs}
 use Rattle.otp_file.specs.Files.{Says}
 use Rattle.otp_file.specs.Trees.{Tree}
-use Rattle.otp_ending.specs.Devices.{HasTree}
-use Rattle.otp_ending.specs.declared.ending.ProgramEnd.{ProgramEnd}
-use Rattle.otp_ending.specs.declared.ending.ProgramEnd.TheVariants.{Done, NoTree, HistoryFull, OutputFailed, OutOfMemory}
+use Rattle.otp_exit.specs.Devices.{HasTree}
+use Rattle.otp_exit.specs.declared.ending.ProgramEnd.{ProgramEnd}
+use Rattle.otp_exit.specs.declared.ending.ProgramEnd.TheVariants.{Done, NoTree, HistoryFull, OutputFailed, OutOfMemory}
 
 -- each file says a tree, and the text tells what differs in the two
 abbrev pub HasDifference : List ℕ → List ℕ → List ℕ → Type 0

@@ -5,16 +5,16 @@ use Rattle.std.specs.Borrow.{Bor}
 use Rattle.otp_file.specs.Files.{Says}
 use Rattle.otp_file.specs.Trees.{Tree}
 use Rattle.otp_sim.specs.Devices.{Written}
-use Rattle.otp_folds.specs.Told.{Tells}
-use Rattle.otp_folds.specs.declared.alike.Grain.{Grain}
-use Rattle.otp_folds.specs.declared.pick.Pick.{Pick}
-use Rattle.otp_folds.specs.declared.pick.Pick.TheVariants as pick
+use Rattle.otp_costs.specs.Told.{Tells}
+use Rattle.otp_costs.specs.declared.alike.Grain.{Grain}
+use Rattle.otp_costs.specs.declared.pick.Pick.{Pick}
+use Rattle.otp_costs.specs.declared.pick.Pick.TheVariants as pick
 use Rattle.otp_objects.specs.Limits.{TellsObject}
 use Rattle.otp_trial.specs.declared.trial.Halt.{Halt}
 use Rattle.otp_trial.specs.declared.trial.Halt.TheVariants as halt
-use Rattle.otp_ending.specs.declared.ending.ProgramEnd.{ProgramEnd}
-use Rattle.otp_ending.specs.Devices.{HasTree}
-use Rattle.otp_ending.specs.declared.ending.ProgramEnd.TheVariants.{Done, NotFound, HistoryFull, OutOfMemory}
+use Rattle.otp_exit.specs.declared.ending.ProgramEnd.{ProgramEnd}
+use Rattle.otp_exit.specs.Devices.{HasTree}
+use Rattle.otp_exit.specs.declared.ending.ProgramEnd.TheVariants.{Done, NotFound, HistoryFull, OutOfMemory}
 use Rattle.otp_questions.specs.Said.{IsNotSaid}
 
 -- how the program ends where a core can't be played on

@@ -7,15 +7,15 @@ use Rattle.otp_account.specs.declared.account.Account.{Account}
 use Rattle.otp_check.specs.Checks.{IsFirstFault}
 use Rattle.otp_file.specs.Files.{Says}
 use Rattle.otp_file.specs.Trees.{Tree}
-use Rattle.otp_folds.specs.declared.alike.Grain.{Grain}
-use Rattle.otp_folds.specs.declared.pick.Pick.{Pick}
+use Rattle.otp_costs.specs.declared.alike.Grain.{Grain}
+use Rattle.otp_costs.specs.declared.pick.Pick.{Pick}
 use Rattle.otp_pages.specs.Costs.{TellsLimits}
 use Rattle.otp_pages.specs.Trees.{TellsTree}
-use Rattle.otp_tried.specs.Objects.{TellsRun}
-use Rattle.otp_tried.specs.Timeline.{TellsPage}
-use Rattle.otp_ending.specs.Devices.{HasTree}
-use Rattle.otp_ending.specs.declared.ending.ProgramEnd.{ProgramEnd}
-use Rattle.otp_ending.specs.declared.ending.ProgramEnd.TheVariants.{Done, NoTree, NotFound, HistoryFull, OutputFailed, OutOfMemory}
+use Rattle.otp_try_pages.specs.Objects.{TellsRun}
+use Rattle.otp_try_pages.specs.Timeline.{TellsPage}
+use Rattle.otp_exit.specs.Devices.{HasTree}
+use Rattle.otp_exit.specs.declared.ending.ProgramEnd.{ProgramEnd}
+use Rattle.otp_exit.specs.declared.ending.ProgramEnd.TheVariants.{Done, NoTree, NotFound, HistoryFull, OutputFailed, OutOfMemory}
 use Rattle.otp_questions.specs.Limited.{IsNameOf}
 use Rattle.otp_questions.specs.Tried.{ending_of_try}
 

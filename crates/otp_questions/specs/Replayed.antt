@@ -10,9 +10,9 @@ use Rattle.otp_replay.specs.Told.{Replays}
 use Rattle.otp_replay.specs.declared.played.ReplayEnd.TheVariants.{Tried}
 use Rattle.otp_try.specs.declared.play.TryEnd.{TryEnd}
 use Rattle.otp_try.specs.declared.play.TryEnd.TheVariants as trial
-use Rattle.otp_ending.specs.Devices.{HasTree}
-use Rattle.otp_ending.specs.declared.ending.ProgramEnd.{ProgramEnd}
-use Rattle.otp_ending.specs.declared.ending.ProgramEnd.TheVariants.{Done, NoTree, LogRefused, ScriptRefused, ScriptMissed, ExpectationFailed, NothingPlayed, HistoryFull, InputFailed, OutputFailed, OutOfMemory}
+use Rattle.otp_exit.specs.Devices.{HasTree}
+use Rattle.otp_exit.specs.declared.ending.ProgramEnd.{ProgramEnd}
+use Rattle.otp_exit.specs.declared.ending.ProgramEnd.TheVariants.{Done, NoTree, LogRefused, ScriptRefused, ScriptMissed, ExpectationFailed, NothingPlayed, HistoryFull, InputFailed, OutputFailed, OutOfMemory}
 
 -- the file says a tree, and what was written is the replay of this log that ended so
 abbrev pub WasReplayed : TryEnd → List ℕ → List ℕ → List ℕ → Bool → Option (List ℕ) → Option (List ℕ) → Type 0

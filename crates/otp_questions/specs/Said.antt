@@ -2,9 +2,9 @@
 use Rattle.std.specs.Prelude.{◌≡◌, ℕ, ◌<◌, List}
 use Rattle.otp_check.specs.Checks.{IsFirstFault}
 use Rattle.otp_sim.specs.Devices.{Written}
-use Rattle.otp_ending.specs.Devices.{HasTree}
-use Rattle.otp_ending.specs.declared.ending.ProgramEnd.{ProgramEnd}
-use Rattle.otp_ending.specs.declared.ending.ProgramEnd.TheVariants.{Done, NoTree, OutputFailed, OutOfMemory}
+use Rattle.otp_exit.specs.Devices.{HasTree}
+use Rattle.otp_exit.specs.declared.ending.ProgramEnd.{ProgramEnd}
+use Rattle.otp_exit.specs.declared.ending.ProgramEnd.TheVariants.{Done, NoTree, OutputFailed, OutOfMemory}
 
 -- what is said of the tree of the file of this name could not be: the file says none, there is no memory, or the writer failed
 abbrev pub IsNotSaid : List ℕ → ProgramEnd → List ℕ → Written → Written → Type 0

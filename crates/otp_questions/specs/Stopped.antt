@@ -4,9 +4,9 @@ use Rattle.std.specs.Io.KnownBytes.{Appends}
 use Rattle.otp_file.specs.Files.{Says}
 use Rattle.otp_file.specs.Trees.{Tree}
 use Rattle.otp_sim.specs.Devices.{Written}
-use Rattle.otp_stops.specs.Told.{TellsStops}
-use Rattle.otp_ending.specs.declared.ending.ProgramEnd.{ProgramEnd}
-use Rattle.otp_ending.specs.declared.ending.ProgramEnd.TheVariants.{Done}
+use Rattle.otp_shutdown.specs.Told.{TellsStops}
+use Rattle.otp_exit.specs.declared.ending.ProgramEnd.{ProgramEnd}
+use Rattle.otp_exit.specs.declared.ending.ProgramEnd.TheVariants.{Done}
 use Rattle.otp_questions.specs.Said.{IsNotSaid}
 
 -- the file says a tree, and the text tells how long its stop may take

@@ -9,8 +9,8 @@ use Rattle.otp_suggest.specs.Gaps.{gap_in}
 use Rattle.otp_suggest.specs.Told.{IsUnsuggested, Suggests}
 use Rattle.otp_suggest.specs.declared.refused.Answer.{Answer}
 use Rattle.otp_suggest.specs.declared.refused.Answer.TheVariants.{Told, NoChild, IsSupervisor}
-use Rattle.otp_ending.specs.declared.ending.ProgramEnd.{ProgramEnd}
-use Rattle.otp_ending.specs.declared.ending.ProgramEnd.TheVariants.{Done, NotFound, NamesSupervisor, NotAGap, HistoryFull}
+use Rattle.otp_exit.specs.declared.ending.ProgramEnd.{ProgramEnd}
+use Rattle.otp_exit.specs.declared.ending.ProgramEnd.TheVariants.{Done, NotFound, NamesSupervisor, NotAGap, HistoryFull}
 use Rattle.otp_questions.specs.Said.{IsNotSaid}
 
 -- the file says a tree and the word an interval, and the text answers so what survives crashes of this child that come at it

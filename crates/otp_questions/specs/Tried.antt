@@ -7,8 +7,8 @@ use Rattle.otp_sim.specs.Devices.{Devices}
 use Rattle.otp_try.specs.Pages.{Tries}
 use Rattle.otp_try.specs.declared.play.TryEnd.{TryEnd}
 use Rattle.otp_try.specs.declared.play.TryEnd.TheVariants as trial
-use Rattle.otp_ending.specs.declared.ending.ProgramEnd.{ProgramEnd}
-use Rattle.otp_ending.specs.declared.ending.ProgramEnd.TheVariants.{Done, NoTree, ScriptRefused, ScriptMissed, ExpectationFailed, NothingPlayed, HistoryFull, InputFailed, OutputFailed, OutOfMemory}
+use Rattle.otp_exit.specs.declared.ending.ProgramEnd.{ProgramEnd}
+use Rattle.otp_exit.specs.declared.ending.ProgramEnd.TheVariants.{Done, NoTree, ScriptRefused, ScriptMissed, ExpectationFailed, NothingPlayed, HistoryFull, InputFailed, OutputFailed, OutOfMemory}
 
 -- how the program ends that tried a tree
 abbrev pub ending_of_try : TryEnd → ProgramEnd

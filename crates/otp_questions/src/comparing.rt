@@ -4,7 +4,7 @@ ghost use Rattle.otp_questions.specs.Compared.{IsCompared};
 
 use crate::limiting::end_of_halt;
 use otp_diff::write_trees_difference;
-use otp_ending::ProgramEnd;
+use otp_exit::ProgramEnd;
 use otp_file::read_tree;
 use otp_sim::{Failed, Output, write_all};
 use std::alloc::Global;

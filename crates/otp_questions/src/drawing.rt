@@ -2,7 +2,7 @@
 
 ghost use Rattle.otp_questions.specs.Said.{IsDrawn};
 
-use otp_ending::ProgramEnd;
+use otp_exit::ProgramEnd;
 use otp_file::read_tree;
 use otp_picture::draw;
 use otp_sim::{Failed, Output, write_all};

@@ -2,13 +2,13 @@
 
 ghost use Rattle.std.specs.Prelude.{◌≡◌, ℕ, List, IfOk, false};
 ghost use Rattle.std.specs.Borrow.{Bor};
-ghost use Rattle.otp_ending.specs.declared.ending.ProgramEnd.TheVariants.{NotFound};
+ghost use Rattle.otp_exit.specs.declared.ending.ProgramEnd.TheVariants.{NotFound};
 ghost use Rattle.otp_questions.specs.Limited.{IsLimited, IsNameOf, TellsLimits, ending_of_halt};
-ghost use Rattle.otp_folds.specs.Told.{is_all};
+ghost use Rattle.otp_costs.specs.Told.{is_all};
 
-use otp_ending::ProgramEnd;
+use otp_costs::{Grain, Pick, Progress, write_limits};
+use otp_exit::ProgramEnd;
 use otp_file::{TreeSpec, read_tree};
-use otp_folds::{Grain, Pick, Progress, write_limits};
 use otp_objects::write_limits_object;
 use otp_sim::{Failed, Output, write_all};
 use otp_trial::Halt;
@@ -23,7 +23,7 @@ pub struct Asking<'a> {
 }
 
 /// Appends the limits of those children of a tree that are asked for, as a table or as an object, and says whether there are any.
-#[tactic(auto, unfolding(otp_folds::specs::Told::TellsRows, otp_objects::specs::Limits::TellsRows))]
+#[tactic(auto, unfolding(otp_costs::specs::Told::TellsRows, otp_objects::specs::Limits::TellsRows))]
 fn tell_limits<P: Progress>(
     alloc: Global,
     is_json: bool,
@@ -84,7 +84,7 @@ pub fn limit_file<'a, P: Progress, W: Output>(
 }
 
 /// The end where no child is found by a name.
-#[tactic(auto, unfolding(otp_folds::specs::Told::is_all))]
+#[tactic(auto, unfolding(otp_costs::specs::Told::is_all))]
 pub(crate) fn not_found<'a>(pick: Pick<'a>) -> ProgramEnd<'a>
     requires { is_all pick ≡ false }
     ensures { (what : Bor (List ℕ)) × (IsNameOf pick.entry what × (result ≡ NotFound what)) }

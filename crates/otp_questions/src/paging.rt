@@ -1,15 +1,15 @@
 //! `tree` and `limits` as pages of HTML.
 
 ghost use Rattle.std.specs.Prelude.{◌≡◌, IfErr, IfOk, false};
-ghost use Rattle.otp_ending.specs.declared.ending.ProgramEnd.TheVariants.{Done};
-ghost use Rattle.otp_folds.specs.Told.{is_all};
+ghost use Rattle.otp_exit.specs.declared.ending.ProgramEnd.TheVariants.{Done};
+ghost use Rattle.otp_costs.specs.Told.{is_all};
 ghost use Rattle.otp_pages.specs.Costs.{TellsLimits};
 ghost use Rattle.otp_questions.specs.Paged.{HasNoLimits, IsLimitsPage, IsNotMade, IsTreePage};
 
 use crate::limiting::{end_of_halt, not_found};
-use otp_ending::ProgramEnd;
+use otp_costs::{Grain, Pick};
+use otp_exit::ProgramEnd;
 use otp_file::{TreeSpec, read_tree};
-use otp_folds::{Grain, Pick};
 use otp_pages::{write_limits_page, write_tree_page};
 use otp_trial::Halt;
 use std::alloc::Global;

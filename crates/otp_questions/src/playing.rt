@@ -7,11 +7,11 @@ ghost use Rattle.otp_questions.specs.Tried.{ending_of_try};
 use crate::limiting::end_of_halt;
 use crate::trying::end_of_try;
 use otp_account::{Account, play_script};
-use otp_ending::ProgramEnd;
+use otp_exit::ProgramEnd;
 use otp_file::read_tree;
 use otp_sim::{Failed, Output, write_all};
-use otp_tried::{write_timeline_page, write_try_object};
 use otp_try::Clock;
+use otp_try_pages::{write_timeline_page, write_try_object};
 use std::alloc::Global;
 
 /// A script, played on the tree of a file and kept.

@@ -3,7 +3,7 @@
 ghost use Rattle.otp_questions.specs.Replayed.{IsReplay};
 
 use crate::trying::end_of_try;
-use otp_ending::ProgramEnd;
+use otp_exit::ProgramEnd;
 use otp_file::read_tree;
 use otp_replay::{ReplayEnd, Replaying, replay};
 use otp_sim::Output;

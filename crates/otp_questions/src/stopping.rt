@@ -2,10 +2,10 @@
 
 ghost use Rattle.otp_questions.specs.Stopped.{IsStopped};
 
-use otp_ending::ProgramEnd;
+use otp_exit::ProgramEnd;
 use otp_file::read_tree;
+use otp_shutdown::write_longest_stop;
 use otp_sim::{Failed, Output, write_all};
-use otp_stops::write_longest_stop;
 use std::alloc::Global;
 
 /// Reads the tree of a file, and writes how long its stop may take, and who takes how much of it.

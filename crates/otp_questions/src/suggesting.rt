@@ -3,7 +3,7 @@
 ghost use Rattle.otp_questions.specs.Suggested.{IsSuggested};
 
 use crate::limiting::end_of_halt;
-use otp_ending::ProgramEnd;
+use otp_exit::ProgramEnd;
 use otp_file::read_tree;
 use otp_sim::{Failed, Output, write_all};
 use otp_suggest::{Answer, read_gap, write_suggestion};

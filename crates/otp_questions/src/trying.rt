@@ -4,7 +4,7 @@ ghost use Rattle.std.specs.Prelude.{◌≡◌};
 ghost use Rattle.otp_sim.specs.Devices.{devices};
 ghost use Rattle.otp_questions.specs.Tried.{IsTrial, ending_of_try};
 
-use otp_ending::ProgramEnd;
+use otp_exit::ProgramEnd;
 use otp_file::read_tree;
 use otp_sim::{Input, Output};
 use otp_try::{Playing, TryEnd, try_tree};

@@ -1,7 +1,7 @@
 -- The child of a tree with a name (own).
 use Rattle.std.specs.Prelude.{◌≡◌, ℕ, ◌+◌, List, [], ◌∷◌, Option, Some, None, if◌then◌else◌}
 use Rattle.std.specs.Str.{bytes_eq}
-use Rattle.otp_folds.specs.Groups.{below}
+use Rattle.otp_costs.specs.Groups.{below}
 use Rattle.otp_spec.specs.declared.child.ChildSpec.{ChildSpec}
 use Rattle.otp_trial.specs.Played.{Seated}
 

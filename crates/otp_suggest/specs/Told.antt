@@ -1,8 +1,8 @@
 -- What would survive crashes of a child, as it is told (own).
 use Rattle.std.specs.Prelude.{◌≡◌, ◌⊎◌, ℕ, Bool, true, false, ◌||◌, List, [], ◌++◌, Option, Some, None, codes, decimal, slice_index_or}
 use Rattle.otp_file.specs.Trees.{Tree}
-use Rattle.otp_folds.specs.Table.{clip}
-use Rattle.otp_folds.specs.Words.{at_left}
+use Rattle.otp_costs.specs.Table.{clip}
+use Rattle.otp_costs.specs.Words.{at_left}
 use Rattle.otp_limits.specs.Costs.{IsJudged, IsUnknown}
 use Rattle.otp_limits.specs.Falls.{supervisor_path}
 use Rattle.otp_limits.specs.Fates.{Plays}

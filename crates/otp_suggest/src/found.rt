@@ -2,7 +2,7 @@
 
 ghost use Rattle.std.specs.Prelude.{◌≡◌, ◌+◌, ◌<◌, ◌≤◌, ◌^◌, IfOk, IfSome, length};
 ghost use Rattle.std.specs.Str.{bytes_eq};
-ghost use Rattle.otp_folds.specs.Groups.{below};
+ghost use Rattle.otp_costs.specs.Groups.{below};
 ghost use Rattle.otp_suggest.specs.Found.{child_from, child_in};
 
 use otp_reason::Name;

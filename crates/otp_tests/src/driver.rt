@@ -35,7 +35,7 @@ pub(crate) struct Driver {
     pub(crate) core: Core,
     reading: u64,
     pub(crate) calls: u64,
-    told: usize,
+    pub(crate) told: usize,
 }
 
 // A number that the test has written.

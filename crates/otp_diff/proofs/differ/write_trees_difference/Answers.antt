@@ -1,8 +1,8 @@
 use Rattle.std.proofs.Common.{List, true, subst, sym}
-use Rattle.otp_folds.specs.Rows.{AreRows}
-use Rattle.otp_folds.specs.declared.alike.Grain.TheVariants.{Alike}
-use Rattle.otp_folds.specs.declared.pick.Pick.TheVariants.{All}
-use Rattle.otp_folds.specs.declared.rows.Row.{Row}
+use Rattle.otp_costs.specs.Rows.{AreRows}
+use Rattle.otp_costs.specs.declared.alike.Grain.TheVariants.{Alike}
+use Rattle.otp_costs.specs.declared.pick.Pick.TheVariants.{All}
+use Rattle.otp_costs.specs.declared.rows.Row.{Row}
 use Rattle.otp_trial.specs.Played.{IsPlanted, Seated}
 use Rattle.otp_diff.proofs.differ.write_trees_difference.Goals as goal
 

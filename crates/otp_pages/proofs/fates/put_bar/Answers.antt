@@ -1,5 +1,5 @@
 use Rattle.std.proofs.Common.{◌≡◌, ◌++◌, ◌∙◌, List, OnOk, ap, codes, decimal, subst, ℕ}
-use Rattle.otp_folds.specs.Words.{burst_text}
+use Rattle.otp_costs.specs.Words.{burst_text}
 use Rattle.otp_pages.specs.Costs.{bar_ground, bar_html, bar_of, bar_opening}
 use Rattle.otp_pages.proofs.Joined.{more, on_ok, whole}
 use Rattle.otp_pages.proofs.fates.put_bar.Goals as goal

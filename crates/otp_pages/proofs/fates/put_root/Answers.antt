@@ -1,5 +1,5 @@
 use Rattle.std.proofs.Common.{◌≡◌, ◌++◌, ◌∙◌, List, OnOk, ap, codes, decimal, subst, ℕ}
-use Rattle.otp_folds.specs.Table.{root_text}
+use Rattle.otp_costs.specs.Table.{root_text}
 use Rattle.otp_pages.specs.Costs.{root_cell}
 use Rattle.otp_pages.specs.Names.{paths_html}
 use Rattle.otp_pages.proofs.Joined.{more, on_ok, whole}

@@ -1,7 +1,7 @@
 use Rattle.std.proofs.Common.{sym, subst}
 use Rattle.otp_sim.specs.Devices.{Written}
-use Rattle.otp_ending.specs.Devices.{HasTree}
-use Rattle.otp_ending.specs.declared.ending.ProgramEnd.{ProgramEnd}
+use Rattle.otp_exit.specs.Devices.{HasTree}
+use Rattle.otp_exit.specs.declared.ending.ProgramEnd.{ProgramEnd}
 use Rattle.otp_questions.specs.Compared.{IsCompared}
 use Rattle.otp_questions.proofs.Compared.{halted}
 use Rattle.otp_questions.proofs.comparing.compare_files.Goals as goal

@@ -1,6 +1,6 @@
 use Rattle.std.proofs.Common.{◌++◌, ◌∙◌, ℕ, List, ap, sym, subst}
-use Rattle.otp_ending.specs.declared.ending.ProgramEnd.{ProgramEnd}
-use Rattle.otp_tried.specs.Timeline.{TellsPage}
+use Rattle.otp_exit.specs.declared.ending.ProgramEnd.{ProgramEnd}
+use Rattle.otp_try_pages.specs.Timeline.{TellsPage}
 use Rattle.otp_questions.specs.Paged.{IsRunOf}
 use Rattle.otp_questions.proofs.playing.page_of_run.Goals as goal
 

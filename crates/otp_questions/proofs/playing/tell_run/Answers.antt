@@ -1,7 +1,7 @@
 use Rattle.std.proofs.Common.{◌++◌, ◌∙◌, ℕ, List, ap, inl, sym, subst}
 use Rattle.std.specs.Io.KnownBytes.{Appends}
-use Rattle.otp_ending.specs.declared.ending.ProgramEnd.{ProgramEnd}
-use Rattle.otp_tried.specs.Objects.{TellsRun}
+use Rattle.otp_exit.specs.declared.ending.ProgramEnd.{ProgramEnd}
+use Rattle.otp_try_pages.specs.Objects.{TellsRun}
 use Rattle.otp_questions.specs.Paged.{IsRunOf}
 use Rattle.otp_questions.proofs.playing.tell_run.Goals as goal
 

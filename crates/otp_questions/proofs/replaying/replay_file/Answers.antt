@@ -1,6 +1,6 @@
 use Rattle.std.proofs.Common.{ℕ, List, sym, subst}
 use Rattle.otp_sim.specs.Devices.{Written}
-use Rattle.otp_ending.specs.declared.ending.ProgramEnd.{ProgramEnd}
+use Rattle.otp_exit.specs.declared.ending.ProgramEnd.{ProgramEnd}
 use Rattle.otp_replay.specs.Told.{Replays}
 use Rattle.otp_replay.specs.declared.played.ReplayEnd.{ReplayEnd}
 use Rattle.otp_try.specs.Pages.{tells_orders}

@@ -1,6 +1,6 @@
 use Rattle.std.proofs.Common.{◌≡◌, ℕ, List, sym, subst}
 use Rattle.otp_sim.specs.Devices.{Written}
-use Rattle.otp_ending.specs.declared.ending.ProgramEnd.{ProgramEnd}
+use Rattle.otp_exit.specs.declared.ending.ProgramEnd.{ProgramEnd}
 use Rattle.otp_suggest.specs.Told.{IsUnsuggested}
 use Rattle.otp_trial.specs.declared.trial.Halt.TheVariants as halt
 use Rattle.otp_questions.specs.Suggested.{IsSuggested}

@@ -2,7 +2,7 @@ use Rattle.std.proofs.Common.{sym, subst}
 use Rattle.otp_sim.specs.Devices.{Devices, devices}
 use Rattle.otp_try.specs.Pages.{tells_orders}
 use Rattle.otp_questions.specs.Tried.{IsTrial}
-use Rattle.otp_ending.specs.declared.ending.ProgramEnd.{ProgramEnd}
+use Rattle.otp_exit.specs.declared.ending.ProgramEnd.{ProgramEnd}
 use Rattle.otp_questions.proofs.Tried.{is_trial}
 use Rattle.otp_questions.proofs.trying.try_file.Goals as goal
 

@@ -1,0 +1,32 @@
+use Rattle.std.proofs.Common.{◌≡◌, ◌∙◌, ◌++◌, ℕ, List, [], ap, length, subst}
+use Rattle.std.specs.Io.KnownBytes.{Appends}
+use Rattle.otp_serve.specs.Serves.{served_text}
+use Rattle.otp_report.specs.declared.report.TableReport.{TableReport}
+use Rattle.otp_command_run.specs.Running.{IsSaid}
+use Rattle.otp_command_run.proofs.Ran.{run_told, serve_done}
+use Rattle.otp_command_run.proofs.serving.serve_file.Goals as goal
+
+pub returns-in-Ok-write_all-clause-done : goal.returns-in-Ok-write_all-clause-done
+returns-in-Ok-write_all-clause-done g c =
+    let plain : c.serve_tree.new.out.items ≡ served_text c.in-Ok-serve_tree.report =
+    (c.in-Ok-serve_tree.ensures {u = tt}).report ∙ ap (λ (l : List ℕ). l ++ served_text c.in-Ok-serve_tree.report) c.new-text.ensures.items in
+    serve_done c.args.how.shows.is_json c.args.name.now c.args.file.now _ _ _ c.in-Ok.tree c.in-Ok-serve_tree.report
+    (c.in-Ok.ensures {u = tt}).tree
+    (c.in-Ok-serve_tree.ensures {u = tt}).runnable (
+      (c.in-Ok-serve_tree.ensures {u = tt}).served,
+      (
+        (c.in-Ok-serve_tree.ensures {u = tt}).plans,
+        (
+          c.in-Ok-say.text.items,
+          (
+            subst (λ (l : List ℕ). IsSaid c.args.how.shows.is_json c.args.name.now c.args.file.now c.in-Ok-serve_tree.report.tables.items c.in-Ok-serve_tree.report.live l c.in-Ok-say.text.items)
+                plain
+                (subst (λ (tables : List TableReport). IsSaid c.args.how.shows.is_json c.args.name.now c.args.file.now tables c.in-Ok-serve_tree.report.live c.serve_tree.new.out.items c.in-Ok-say.text.items)
+                c.as_slice-tables.ensures.value (c.in-Ok-say.ensures {u = tt})),
+            subst (λ (l : List ℕ). Appends (g.W.Output.seen c.args.output.now).bytes (g.W.Output.seen c.write_all.new.output).bytes l)
+                c.as_slice.ensures.value (c.in-Ok-write_all.ensures {u = tt}).ok,
+          ),
+        ),
+      ),
+    )
+    c.ending_of_live.ensures

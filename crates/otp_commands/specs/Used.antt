@@ -1,0 +1,120 @@
+-- What was done with a tree file, by how the program ended (own).
+use Rattle.std.specs.Prelude.{◌≡◌, ◌⊎◌, ℕ, ◌<◌, ◌==◌, Bool, true, false, List, Option, Some, None, count_by}
+use Rattle.std.specs.Io.KnownBytes.{Appends}
+use Rattle.std.specs.Borrow.{Bor}
+use Rattle.otp_sim.specs.Devices.{AppendsPart, Devices, Written}
+use Rattle.otp_questions.specs.Compared.{IsCompared}
+use Rattle.otp_costs.specs.declared.alike.Grain.{Grain}
+use Rattle.otp_costs.specs.declared.pick.Pick.{Pick}
+use Rattle.otp_questions.specs.Limited.{IsLimited}
+use Rattle.otp_questions.specs.Paged.{HasNoLimits, IsLimitsPage, IsNotMade, IsRunPage, IsRunTold, IsTreePage}
+use Rattle.otp_questions.specs.Replayed.{IsReplay}
+use Rattle.otp_questions.specs.Said.{IsDrawn}
+use Rattle.otp_questions.specs.Stopped.{IsStopped}
+use Rattle.otp_questions.specs.Suggested.{IsSuggested}
+use Rattle.otp_questions.specs.Tried.{IsTrial}
+use Rattle.otp_exit.specs.Devices.{Files, IsUnread}
+use Rattle.otp_exit.specs.Told.{IsSmall}
+use Rattle.otp_exit.specs.declared.ending.ProgramEnd.{ProgramEnd}
+use Rattle.otp_exit.specs.declared.ending.ProgramEnd.TheVariants.{FileNotRead, OutOfMemory, OutputFailed}
+use Rattle.otp_cli.specs.declared.words.Form.{Form}
+use Rattle.otp_cli.specs.declared.words.Form.TheVariants as form
+use Rattle.otp_cli.specs.declared.words.Page.{Page}
+use Rattle.otp_cli.specs.declared.words.Usage.{Usage}
+use Rattle.otp_cli.specs.declared.words.Usage.TheVariants as usage
+use Rattle.otp_commands.specs.Imported.{IsImported}
+use Rattle.otp_commands.specs.Pages.{IsPaged, IsRefused}
+
+-- the script is in another file, of which nothing of the input is read: that can't be read, or the tree was tried by it
+abbrev pub IsTrialOf : List ℕ → Option (Bor (List ℕ)) → ProgramEnd → List ℕ → Devices → Devices → Type 0
+IsTrialOf name None ending file old new = IsTrial name ending file old new
+IsTrialOf name (Some script) ending file old new =
+    ((ending ≡ FileNotRead) × (new ≡ old)) ⊎ ((ending ≡ OutOfMemory) × (new ≡ old))
+    ⊎ (IsTrial name ending file old new × IsUnread old new)
+
+-- the tree of a file was compared with that of another of this name, of which it is known what bytes it may hold; or that can't be
+-- read
+abbrev pub IsComparedWith : (List ℕ → Type 0) → List ℕ → List ℕ → ProgramEnd → List ℕ → Written → Written → Type 0
+IsComparedWith Holds name other ending file old new =
+    ((ending ≡ FileNotRead) × (new ≡ old)) ⊎ ((ending ≡ OutOfMemory) × (new ≡ old))
+    ⊎ ((other_file : List ℕ) × ((Holds other_file × IsSmall other_file) × IsCompared name other ending file other_file old new))
+
+-- behind what is told of a log of another program the lines were replayed that stand for it; or it couldn't be told
+abbrev pub IsReplayBehind : List ℕ → Bor (List ℕ) → List ℕ → Bool → List ℕ → ProgramEnd → List ℕ → Written → Written → Type 0
+IsReplayBehind notes log lines is_listed name ending file old new =
+    ((ending ≡ OutputFailed) × (AppendsPart old.bytes new.bytes notes × (old.failures < new.failures)))
+    ⊎ ((middle : Written) × (Appends old.bytes middle.bytes notes × IsReplay log lines is_listed name ending file middle new))
+
+-- as many lines stand for these
+abbrev pub StandsFor : List ℕ → List ℕ → Type 0
+StandsFor lines text = count_by (λ byte. byte == 10) lines ≡ count_by (λ byte. byte == 10) text
+
+-- a log was replayed as it stands, or by the lines that stand for its lines; or its file of ids can't be read
+abbrev pub IsReplayOfText : Bor (List ℕ) → List ℕ → Bool → List ℕ → ProgramEnd → List ℕ → Written → Written → Type 0
+IsReplayOfText log text is_listed name ending file old new =
+    ((ending ≡ FileNotRead) × (new ≡ old)) ⊎ ((ending ≡ OutOfMemory) × (new ≡ old))
+    ⊎ IsReplay log text is_listed name ending file old new
+    ⊎ ((lines : List ℕ) × (StandsFor lines text × ((notes : List ℕ) × IsReplayBehind notes log lines is_listed name ending file old new)))
+
+-- the log of this name was replayed, of which the same is known; or it can't be read
+abbrev pub IsReplayOf : (List ℕ → Type 0) → Bor (List ℕ) → Bool → List ℕ → ProgramEnd → List ℕ → Written → Written → Type 0
+IsReplayOf Holds log is_listed name ending file old new =
+    ((ending ≡ FileNotRead) × (new ≡ old)) ⊎ ((ending ≡ OutOfMemory) × (new ≡ old))
+    ⊎ ((text : List ℕ) × (Holds text × IsReplayOfText log text is_listed name ending file old new))
+
+-- a script that is taken whole can't be read, or it was, and this was done
+abbrev pub IsRead : (ProgramEnd → Written → Written → Type 0) → ProgramEnd → Written → Written → Type 0
+IsRead Done ending old new =
+    ((ending ≡ FileNotRead) × (new ≡ old)) ⊎ (((ending ≡ OutOfMemory) × (new ≡ old)) ⊎ Done ending old new)
+
+-- a run of such a script was written to a page, which may not go there, or the script can't be read
+abbrev pub IsRunPaged : Files → Page → List ℕ → Option (Bor (List ℕ)) → List ℕ → ProgramEnd → Written → Written → Type 0
+IsRunPaged known page name script file ending old new =
+    ((new ≡ old) × (IsRefused page ending ⊎ ((ending ≡ FileNotRead) ⊎ (ending ≡ OutOfMemory))))
+    ⊎ IsPaged known page name script (IsRunPage name file) (λ ending. IsNotMade name ending file) ending old new
+
+-- the tree of the file of this name was tried, and the run written in this form
+abbrev pub IsTrialFor : Files → List ℕ → Option (Bor (List ℕ)) → Form → ProgramEnd → List ℕ → Devices → Devices → Type 0
+IsTrialFor known name script form.Text ending file old new = IsTrialOf name script ending file old new
+IsTrialFor known name script form.Object ending file old new =
+    IsUnread old new × IsRead (λ ending. IsRunTold name ending file) ending old.output new.output
+IsTrialFor known name script (form.Page page) ending file old new =
+    IsUnread old new × IsRunPaged known page name script file ending old.output new.output
+
+-- what crashes of the children of a tree cost was written in this form
+abbrev pub IsLimitedAs : Files → Form → Grain → Pick → List ℕ → ProgramEnd → List ℕ → Devices → Devices → Type 0
+IsLimitedAs known form.Text grain pick name ending file old new = IsUnread old new × IsLimited false grain pick name ending file old.output new.output
+IsLimitedAs known form.Object grain pick name ending file old new = IsUnread old new × IsLimited true grain pick name ending file old.output new.output
+IsLimitedAs known (form.Page page) grain pick name ending file old new =
+    IsUnread old new
+    × IsPaged known page name None (IsLimitsPage grain pick name file) (λ ending. HasNoLimits grain pick name ending file) ending old.output new.output
+
+-- a tree was drawn as text, or as a page
+abbrev pub IsDrawnAs : Files → Option Page → List ℕ → ProgramEnd → List ℕ → Devices → Devices → Type 0
+IsDrawnAs known None name ending file old new = IsUnread old new × IsDrawn name ending file old.output new.output
+IsDrawnAs known (Some page) name ending file old new =
+    IsUnread old new × IsPaged known page name None (IsTreePage name file) (λ ending. IsNotMade name ending file) ending old.output new.output
+
+-- remarks on what was read may be told, though all went well
+abbrev pub has_remarks : Usage → Bool
+has_remarks (usage.Import of_commands) = true
+has_remarks _ = false
+
+-- the tree file of this name was used so
+abbrev pub IsUsed : Files → List ℕ → Usage → ProgramEnd → List ℕ → Devices → Devices → Type 0
+IsUsed known name (usage.Try script writer shows form) ending file old new = IsTrialFor known name script form ending file old new
+IsUsed known name usage.Stop ending file old new = IsUnread old new × IsStopped name ending file old.output new.output
+IsUsed known name (usage.Draw page) ending file old new = IsDrawnAs known page name ending file old new
+IsUsed known name (usage.Limit pick grain form) ending file old new = IsLimitedAs known form grain pick name ending file old new
+IsUsed known name (usage.Suggest child every) ending file old new = IsUnread old new × IsSuggested child every name ending file old.output new.output
+IsUsed known name (usage.Compare other) ending file old new = IsUnread old new × IsComparedWith (known.holds other.now) name other.now ending file old.output new.output
+IsUsed known name (usage.Replay log reading is_listed shows) ending file old new =
+    IsUnread old new × IsReplayOf (known.holds log.now) log is_listed name ending file old.output new.output
+IsUsed known name (usage.Import of_commands) ending file old new =
+    IsUnread old new × IsImported of_commands ending old.output new.output
+
+-- the same of a file of which it is known what bytes it may hold: it can't be read, or it was used
+abbrev pub Uses : Files → List ℕ → Usage → ProgramEnd → Devices → Devices → Type 0
+Uses known name usage ending old new =
+    ((ending ≡ FileNotRead) × (new ≡ old)) ⊎ ((ending ≡ OutOfMemory) × (new ≡ old))
+    ⊎ ((file : List ℕ) × ((known.holds name file × IsSmall file) × IsUsed known name usage ending file old new))

@@ -1,0 +1,159 @@
+//! `replay`: the log of a file is read, also one of another program, and what it tells is played on a tree.
+
+ghost use Rattle.std.specs.Prelude.{◌≡◌, ◌==◌, ◌≤◌, count_by, false, IfOk, IfSome};
+ghost use Rattle.otp_commands.specs.Used.{IsReplayBehind, IsReplayOf, IsReplayOfText};
+ghost use Rattle.otp_exit.specs.Told.{TellsFirst};
+
+use otp_cli::LogReading;
+use otp_exit::{ProgramEnd, TreeFiles, read_log, read_tree_file};
+use otp_file::read_tree;
+use otp_logs::{LogWords, Translation, translate_log};
+use otp_questions::{Log, replay_file};
+use otp_replay::Replaying;
+use otp_sim::{Failed, Output, write_all};
+use std::alloc::{AllocError, Global};
+
+/// Plays what the log of this name tells on the tree of a file.
+pub(crate) fn replay_log<'a, F: TreeFiles, W: Output, E: Output>(
+    alloc: Global,
+    files: &F,
+    name: &'a str,
+    file: &[u8],
+    log: &'a str,
+    reading: LogReading<'a>,
+    replaying: Replaying,
+    output: &mut W,
+    errors: &mut E,
+) -> ProgramEnd<'a>
+    ensures done { IsReplayOf ((F.known files.now).holds log.now) log.entry replaying.is_listed name.now
+        result file.now (W.seen output.old) (W.seen output.new) }
+    ensures first { TellsFirst false result (E.seen errors.old) (E.seen errors.new) }
+    ensures kept { (E.seen errors.old).failures ≤ (E.seen errors.new).failures }
+{
+    match read_log(files, log, errors) {
+        Ok(text) => replay_read(
+            alloc, files, name, file, log, &text, reading, replaying, output, errors,
+        ),
+        Err(ending) => ending,
+    }
+}
+
+/// Plays a log that was read, with the file of ids, if one is named.
+fn replay_read<'a, F: TreeFiles, W: Output, E: Output>(
+    alloc: Global,
+    files: &F,
+    name: &'a str,
+    file: &[u8],
+    log: &'a str,
+    text: &[u8],
+    reading: LogReading<'a>,
+    replaying: Replaying,
+    output: &mut W,
+    errors: &mut E,
+) -> ProgramEnd<'a>
+    ensures done { IsReplayOfText log.entry text.now replaying.is_listed name.now
+        result file.now (W.seen output.old) (W.seen output.new) }
+    ensures first { TellsFirst false result (E.seen errors.old) (E.seen errors.new) }
+    ensures kept { (E.seen errors.old).failures ≤ (E.seen errors.new).failures }
+{
+    let strict = reading.is_strict;
+    match reading.ids {
+        None => replay_text(alloc, name, file, log, text, b"", strict, replaying, output),
+        Some(ids) => match read_tree_file(files, ids, errors) {
+            Ok(ids) => replay_text(
+                alloc, name, file, log, text, &ids, strict, replaying, output,
+            ),
+            Err(ending) => ending,
+        },
+    }
+}
+
+/// Plays a log that was read, where this file says which children its names mean.
+fn replay_text<'a, W: Output>(
+    alloc: Global,
+    name: &'a str,
+    file: &[u8],
+    log: &'a str,
+    text: &[u8],
+    ids: &[u8],
+    is_strict: bool,
+    replaying: Replaying,
+    output: &mut W,
+) -> ProgramEnd<'a>
+    ensures { IsReplayOfText log.entry text.now replaying.is_listed name.now
+        result file.now (W.seen output.old) (W.seen output.new) }
+{
+    let words = LogWords {
+        name: log,
+        ids,
+        is_strict,
+        keeps_others: replaying.is_listed,
+    };
+    match translated(alloc, file, text, words) {
+        Err(_) => ProgramEnd::OutOfMemory,
+        Ok(None) => {
+            let read = Log { name: log, text };
+            replay_file(alloc, name, file, read, replaying, output)
+        }
+        Ok(Some(translation)) => {
+            let ending = replay_behind(
+                alloc,
+                name,
+                file,
+                log,
+                translation.lines.as_slice(),
+                translation.notes.as_slice(),
+                replaying,
+                output,
+            );
+            drop(translation);
+            ending
+        }
+    }
+}
+
+/// What stands for a log of another program. None where the file says no tree, which a replay tells.
+fn translated(
+    alloc: Global,
+    file: &[u8],
+    text: &[u8],
+    words: LogWords<'_>,
+) -> Result<Option<Translation>, AllocError>
+    ensures { IfOk result (λ found. IfSome found (λ translation.
+        count_by (λ byte. byte == 10) translation.lines.items ≡ count_by (λ byte. byte == 10) text.now)) }
+{
+    match read_tree(alloc, file) {
+        Err(_) => Ok(None),
+        Ok(tree) => {
+            let translation = translate_log(alloc, &tree, text, words);
+            drop(tree);
+            translation
+        }
+    }
+}
+
+/// Replays the lines that stand for a log, behind what is told of it.
+fn replay_behind<'a, W: Output>(
+    alloc: Global,
+    name: &'a str,
+    file: &[u8],
+    log: &'a str,
+    lines: &[u8],
+    notes: &[u8],
+    replaying: Replaying,
+    output: &mut W,
+) -> ProgramEnd<'a>
+    ensures { IsReplayBehind notes.now log.entry lines.now replaying.is_listed name.now
+        result file.now (W.seen output.old) (W.seen output.new) }
+{
+    match write_all(output, notes) {
+        Ok(()) => {
+            let read = Log {
+                name: log,
+                text: lines,
+            };
+            replay_file(alloc, name, file, read, replaying, output)
+        }
+        Err(Failed) => ProgramEnd::OutputFailed,
+    }
+}

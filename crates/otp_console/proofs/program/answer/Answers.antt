@@ -1,7 +1,0 @@
-use Rattle.std.proofs.Common.{subst, sym}
-use Rattle.otp_console.specs.Words.{EndsFor}
-use Rattle.otp_words.specs.declared.words.WordsFault.{WordsFault}
-use Rattle.otp_console.proofs.program.answer.Goals as goal
-
-pub returns-in-Clap-clause-ending : goal.returns-in-Clap-clause-ending
-returns-in-Clap-clause-ending g c = subst (λ (fault : WordsFault). EndsFor fault c.show.result) (sym c.in-Clap.is) c.show.ensures.ending

@@ -1,6 +1,0 @@
-use Rattle.std.proofs.Common.{[], refl}
-use Rattle.otp_console.proofs.Untold.{appends_nothing}
-use Rattle.otp_console.proofs.program.end_of_fault.Goals as goal
-
-pub returns-in-Topic-clause-done : goal.returns-in-Topic-clause-done
-returns-in-Topic-clause-done c = λ seen. (refl, [], appends_nothing seen.output.bytes)

@@ -1,7 +1,0 @@
-pub mod Pages
-pub mod Endings
-pub mod Imported
-pub mod Used
-pub mod Runs
-pub mod Trees
-pub mod Words

@@ -1,0 +1,4 @@
+pub mod Below
+pub mod Lint
+pub mod Texts
+pub mod Found

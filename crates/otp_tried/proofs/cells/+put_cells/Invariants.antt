@@ -1,5 +1,0 @@
-use Rattle.std.specs.Prelude.{length}
-use Rattle.otp_tried.proofs.cells.+put_cells.Given as goal
-
-abbrev pub decreases-put_cells : goal.decreases-put_cells
-decreases-put_cells l = length l.seats.now

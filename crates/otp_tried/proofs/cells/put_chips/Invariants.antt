@@ -1,7 +1,0 @@
-use Rattle.std.proofs.Common.{◌≡◌, ◌++◌, drop}
-use Rattle.std.specs.List.{flat_map}
-use Rattle.otp_tried.specs.Cells.{chip_html}
-use Rattle.otp_tried.proofs.cells.put_chips.Given as goal
-
-abbrev pub invariant-loop-mark : goal.invariant-loop-mark
-invariant-loop-mark l = l.out.items ++ flat_map (chip_html l.last) (drop l.mark-index l.marks) ≡ l.fn.out.items ++ flat_map (chip_html l.last) l.marks

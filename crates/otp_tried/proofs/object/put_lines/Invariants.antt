@@ -1,6 +1,0 @@
-use Rattle.std.proofs.Common.{◌≡◌, ◌++◌, drop, true}
-use Rattle.otp_tried.specs.Objects.{lines_text}
-use Rattle.otp_tried.proofs.object.put_lines.Given as goal
-
-abbrev pub invariant-loop-one : goal.invariant-loop-one
-invariant-loop-one l = l.out.items ++ lines_text l.is_first (drop l.one-index l.lines) ≡ l.fn.out.items ++ lines_text true l.lines

@@ -1,5 +1,0 @@
-use Rattle.std.specs.Prelude.{length}
-use Rattle.otp_tried.proofs.supervisors.+put_supervisors.Given as goal
-
-abbrev pub decreases-put_supervisors : goal.decreases-put_supervisors
-decreases-put_supervisors l = length l.seats.now

@@ -1,0 +1,7 @@
+use Rattle.std.proofs.Common.{◌≡◌, ◌++◌, drop}
+use Rattle.std.specs.List.{flat_map}
+use Rattle.otp_try_pages.specs.Timeline.{sum_cell}
+use Rattle.otp_try_pages.proofs.columns.put_seat_sums.Given as goal
+
+abbrev pub invariant-loop-seat : goal.invariant-loop-seat
+invariant-loop-seat l = l.out.items ++ flat_map sum_cell (drop l.seat-index l.seats) ≡ l.fn.out.items ++ flat_map sum_cell l.seats
