@@ -1,6 +1,6 @@
 -- A bound of the deadlines of rows, from one change to the next.
-use Rattle.std.proofs.Common.{◌≡◌, ℕ, ◌+◌, ◌<◌, ◌≤◌, List, [], ◌∷◌, ◌++◌, ◌∙◌, ap, arith, cond, get_or, inl, inr, length, refl, set, subst, suc, sym}
-use Rattle.std.specs.Prelude.{Bool, true, false, count_by, nat_lt, Option, None, Some}
+use Rattle.std.proofs.Common.{◌≡◌, ℕ, ◌+◌, ◌≤◌, List, [], ◌∷◌, ◌++◌, ◌∙◌, ap, arith, cond, get_or, inl, inr, length, refl, set, subst, suc, sym}
+use Rattle.std.specs.Prelude.{Bool, true, false, count_by, None, Some}
 use Rattle.std.specs.List.{remove, sum_by}
 use Rattle.std.proofs.lemmas.Bool.{both_ways, cases_lt, le-ltb, ltb-false}
 use Rattle.std.proofs.lemmas.List.{get_or_append_left, get_or-set_other, get_or-set_same, length-append, length-set}
