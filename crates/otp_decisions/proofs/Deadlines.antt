@@ -66,13 +66,13 @@ stays_from x s (row ∷ rows) le are =
     ∙ stays_from x s rows le (later s row rows are)
 
 known_from : (least : Option ℕ) (rows : List Row) (place x s : ℕ) → NotBefore x least → place < length rows → ((d : Row) → deadline_of (get_or rows place d).state ≡ Some x) → x ≤ s → AreNotBefore s rows → deadline_from least rows ≡ Some x
-known_from least [] place x s no within is le are = absurd (omega (arith, within))
-known_from least (row ∷ rows) zero x s no within is le are =
+known_from least [] place x s bound within is le are = absurd (omega (arith, within))
+known_from least (row ∷ rows) zero x s bound within is le are =
     ap (λ (o : Option ℕ). deadline_from (earlier least o) rows) (is row)
-    ∙ ap (λ (o : Option ℕ). deadline_from o rows) (comes x least no)
+    ∙ ap (λ (o : Option ℕ). deadline_from o rows) (comes x least bound)
     ∙ stays_from x s rows le (later s row rows are)
-known_from least (row ∷ rows) (suc place) x s no within is le are =
-    known_from (earlier least (deadline_of row.state)) rows place x s (both_not x least (deadline_of row.state) no (of_state s x row.state le (are 0 row (omega arith)))) (omega (arith, within)) is le (later s row rows are)
+known_from least (row ∷ rows) (suc place) x s bound within is le are =
+    known_from (earlier least (deadline_of row.state)) rows place x s (both_not x least (deadline_of row.state) bound (of_state s x row.state le (are 0 row (omega arith)))) (omega (arith, within)) is le (later s row rows are)
 
 -- the deadline of a row that isn't after the moment before which there is none
 pub known_next : (rows : List Row) (place x s : ℕ) → place < length rows → ((d : Row) → deadline_of (get_or rows place d).state ≡ Some x) → x ≤ s → AreNotBefore s rows → next_deadline rows ≡ Some x
