@@ -2,3 +2,4 @@ pub mod Answered
 pub mod Kept
 pub mod Seen
 pub mod Under
+pub mod Above

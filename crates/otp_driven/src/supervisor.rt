@@ -1,6 +1,7 @@
 //! A supervisor of the tree: its core, and how many of its orders were taken.
 
-ghost use Rattle.std.specs.Prelude.{◌≡◌, ℕ, All, ◌≤◌, ◌<◌, ◌^◌, ◌-◌, ◌⊎◌, false, true, Some, is_some, min, slice_get, length, option_map, IfErr, IfOk, IfSome, OnOk, OnErr};
+ghost use Rattle.std.specs.Prelude.{◌≡◌, ℕ, All, ◌+◌, ◌≤◌, ◌<◌, ◌^◌, ◌-◌, ◌⊎◌, [], false, true, Some, is_some, max, min, slice_get, length, option_map, IfErr, IfOk, IfSome, OnOk, OnErr};
+ghost use Rattle.otp_change.specs.Change.{MayChange, changed};
 ghost use Rattle.otp_core.specs.Happened.{HappenedAfter};
 ghost use Rattle.otp_driven.specs.declared.limits.TheConstants.{KEPT_EVENTS};
 ghost use Rattle.otp_table.specs.Rows.{has_process};
@@ -9,17 +10,22 @@ ghost use Rattle.otp_rules.specs.Ends.{last_stamps};
 ghost use Rattle.otp_rules.specs.Next.{next_deadline, next_kind};
 ghost use Rattle.otp_rules.specs.State.{is_over};
 ghost use Rattle.otp_spec.specs.declared.limits.TheConstants.{MAX_READING};
-ghost use Rattle.otp_driven.specs.Members.{Happens, HasNoRoom, IsRefused, has_order, passed, row_at, state_in, unopened};
+ghost use Rattle.otp_driven.specs.Members.{Happens, HasNoRoom, IsRefused, changed_member, has_order, passed, row_at, state_in, unopened};
 ghost use Rattle.otp_driven.specs.Replies.{AreAnswered, IsKept, IsReplyIn};
 ghost use Rattle.otp_driven.specs.declared.fault.DriveFault.TheVariants.{OutOfMemory};
-ghost use Rattle.otp_rules.specs.Needs.{numbers_of};
+ghost use Rattle.otp_core.specs.View.{state_of};
+ghost use Rattle.otp_rules.specs.Cuts.{short_base_of};
+ghost use Rattle.otp_rules.specs.Fit.{IsDistinct};
+ghost use Rattle.otp_rules.specs.Needs.{last_number, numbers_of};
 ghost use Rattle.otp_rules.specs.declared.event.Effect.TheVariants as effect;
 
 use crate::fault::{DriveFault, fault_of};
 use crate::limits::KEPT_EVENTS;
-use otp_core::{Core, ReplyAnswer, laws};
+use otp_change::{ChangeFault, change};
+use otp_core::{Core, ReplyAnswer, ResumeFault, laws};
+use otp_order::check_order;
 use otp_rules::{CountsNow, Effect, Kind, Phase, Reply};
-use otp_spec::{MAX_READING, SupFlags, SupSpec};
+use otp_spec::{ChildSpec, MAX_READING, SupFlags, SupSpec};
 use otp_table::Row;
 use std::alloc::Global;
 use std::collections::VecDeque;
@@ -69,6 +75,7 @@ fn happen(core: &mut Core, reading: u64, kind: &Kind, last: u64) -> Result<u64, 
     ensures ok { IfOk result (λ after. HappenedAfter KEPT_EVENTS last reading kind.now core.old core.new after) }
     ensures err { OnErr result (core.new ≡ record core.old { prepared = core.new.prepared }) }
     ensures why { IfErr result (λ why. (why ≡ OutOfMemory) ⊎ HasNoRoom core.old.base core.old.history core.old.effects why) }
+    ensures above { (n : ℕ) → n ≤ last → All (λ m. n < m) (numbers_of core.old.history) → All (λ m. n < m) (numbers_of core.new.history) }
     // What a cut drops is no answer that an order tells of.
     ensures answered { AreAnswered core.old → AreAnswered core.new }
 {
@@ -78,6 +85,34 @@ fn happen(core: &mut Core, reading: u64, kind: &Kind, last: u64) -> Result<u64, 
     match core.happen_after(KEPT_EVENTS, reading, kind, last) {
         Ok(after) => Ok(after),
         Err(cause) => Err(fault_of(cause)),
+    }
+}
+
+/// A core that goes on from the checkpoint of this one, under other flags and specifications.
+fn changed_core(
+    alloc: Global,
+    core: &Core,
+    flags: &SupFlags,
+    specs: &[ChildSpec],
+) -> Result<Core, ChangeFault>
+    requires { core.now.effects ≡ [] }
+    ensures base { IfOk result (λ new. new.base ≡ changed flags.now specs.now (short_base_of (state_of core.now))) }
+    ensures flags { IfOk result (λ new. new.base.flags ≡ flags.now) }
+    ensures numbers { IfOk result (λ new. new.earlier.greatest_number ≡ max core.now.earlier.greatest_number (last_number core.now.history)) }
+    ensures history { IfOk result (λ new. new.history ≡ []) }
+    ensures effects { IfOk result (λ new. new.effects ≡ []) }
+    ensures apart { IfOk result (λ new. IsDistinct (new.earlier.greatest_number + 1) new.base) }
+    ensures possible { OnOk result (MayChange flags.now specs.now (short_base_of (state_of core.now))) }
+{
+    let old = core.checkpoint(alloc)?;
+    let new = change(alloc, &old, flags, specs)?;
+    if let Err(_) = check_order(&new) {
+        return Err(ChangeFault::Busy);
+    }
+    match Core::resume(alloc, &new) {
+        Ok(core) => Ok(core),
+        Err(ResumeFault::OutOfMemory) => Err(ChangeFault::OutOfMemory),
+        Err(_) => Err(ChangeFault::Busy),
     }
 }
 
@@ -106,10 +141,38 @@ impl Supervisor {
         ensures err { OnErr result (self.new ≡ self.old) }
         ensures why { IfErr result (λ why. IsRefused last self.old why) }
     {
-        if last >= MAX_READING || last < self.core.last_number() {
+        if last >= MAX_READING || last < self.core.greatest_number() {
             return Err(DriveFault::Spent);
         }
         happen(&mut self.core, reading, kind, last)
+    }
+
+    /// It goes on so under other flags and other specifications: a child of both keeps its process ([`otp_change::change`]). It
+    /// itself stays as it is.
+    ///
+    /// # Errors
+    ///
+    /// Those of [`otp_change::change`], and [`ChangeFault::Busy`] where an order was not taken. So it is, too, where the checkpoint
+    /// isn't in order, or no core goes on from it.
+    pub fn changed(
+        &self,
+        alloc: Global,
+        flags: &SupFlags,
+        specs: &[ChildSpec],
+    ) -> Result<Supervisor, ChangeFault>
+        ensures ok { IfOk result (λ new. new ≡ changed_member flags.now specs.now self.now) }
+        ensures possible { OnOk result (MayChange flags.now specs.now (short_base_of (state_in self.now))) }
+    {
+        if !self.core.effects().is_empty() {
+            return Err(ChangeFault::Busy);
+        }
+        let core = changed_core(alloc, &self.core, flags, specs)?;
+        Ok(Supervisor {
+            flags: *flags,
+            core,
+            taken: 0,
+            seen: 0,
+        })
     }
 
     /// The next order that was not taken.
@@ -172,7 +235,7 @@ impl Supervisor {
     {
         laws::processes_are_owned();
         let _lawful = self.core.history();
-        let _last = self.core.last_number();
+        let _greatest = self.core.greatest_number();
         match row_with(self.core.rows(), self.seen, number) {
             Some(row) => Some(row),
             None => None,
