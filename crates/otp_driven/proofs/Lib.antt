@@ -3,3 +3,5 @@ pub mod Kept
 pub mod Seen
 pub mod Under
 pub mod Above
+pub mod Changed
+pub mod Plans

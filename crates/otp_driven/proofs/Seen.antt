@@ -6,6 +6,7 @@ use Rattle.std.proofs.lemmas.Bool.{false_from_ne_true, lt-ltb}
 use Rattle.std.proofs.lemmas.List.{get_or-take, length-take-le}
 use Rattle.std.proofs.lemmas.List.Sums.{get_or-le-sum_by, position_or_len_is, sum_by_more_le}
 use Rattle.std.proofs.lemmas.Option.{get_or_from_slice_get, slice_get_within}
+use Rattle.otp_driven.proofs.Changed.{owned_after}
 use Rattle.otp_rules.specs.Fit.{IsDistinct}
 use Rattle.otp_rules.specs.Needs.{IsLawfulHistory, numbers_of}
 use Rattle.otp_rules.specs.Processes.{ProcessesStayOwned}
@@ -55,6 +56,5 @@ pub only_row : ProcessesStayOwned → (base : State) (history : List Event) (giv
     → row_at (state_after base history).rows q ≡ Some row
 unfolding row_at
 only_row owned base history given last k q row apart above lawful low numbers at passes =
-    let later : All (λ n. given + 1 ≤ n) (numbers_of history) = λ i d inside. let more : given < get_or (numbers_of history) i d = above i d inside in omega (arith, more) in
-    let here : IsDistinct last (state_after base history) = owned base history (given + 1) last lawful later numbers (omega (arith, low)) apart in
+    let here : IsDistinct last (state_after base history) = owned_after owned base history given last apart above lawful low numbers in
     ap (row_in (state_after base history).rows) (only_place (row_has (has_process q)) (state_after base history).rows k row (here.0 q) at passes) ∙ at

@@ -9,9 +9,7 @@ use Rattle.otp_driven.specs.declared.fault.DriveFault.TheVariants.{OrdersWait, O
 use Rattle.otp_rules.specs.declared.event.Effect.{Effect}
 use Rattle.otp_rules.specs.declared.event.Event.{Event}
 use Rattle.otp_rules.specs.declared.event.Kind.{Kind}
-use Rattle.otp_change.specs.Change.{changed}
 use Rattle.otp_rules.specs.Counts.{lines_told}
-use Rattle.otp_rules.specs.Cuts.{short_base_of}
 use Rattle.otp_rules.specs.Needs.{last_number, needs_number}
 use Rattle.otp_rules.specs.Run.{empty_state, state_after}
 use Rattle.otp_rules.specs.State.{State}
@@ -50,11 +48,6 @@ unopened flags specs = record { base = empty_state flags specs; given = 0; histo
 -- the greatest number that a child's process had
 abbrev pub greatest : Member → ℕ
 greatest m = max m.given (last_number m.history)
-
--- it goes on under other flags and specifications: what happened before is in the state alone
-abbrev pub changed_member : SupFlags → List ChildSpec → Member → Member
-changed_member flags specs m =
-    record { base = changed flags specs (short_base_of (state_in m)); given = greatest m; history = []; effects = []; taken = 0 }
 
 -- an event of this kind happens to a supervisor at this reading of the clock: its orders are those of the rules, behind those
 -- that are there. Where a process is started it gets the next number after the last one

@@ -10,7 +10,9 @@ ghost use Rattle.otp_rules.specs.Ends.{last_stamps};
 ghost use Rattle.otp_rules.specs.Next.{next_deadline, next_kind};
 ghost use Rattle.otp_rules.specs.State.{is_over};
 ghost use Rattle.otp_spec.specs.declared.limits.TheConstants.{MAX_READING};
-ghost use Rattle.otp_driven.specs.Members.{Happens, HasNoRoom, IsRefused, changed_member, has_order, passed, row_at, state_in, unopened};
+ghost use Rattle.otp_base.specs.States.{state_in as state_of_base};
+ghost use Rattle.otp_driven.specs.Changed.{IsUnchanged, IsUnchangedAs, IsUnchangedState, MayGoOn, changed_member};
+ghost use Rattle.otp_driven.specs.Members.{Happens, HasNoRoom, IsRefused, has_order, passed, row_at, state_in, unopened};
 ghost use Rattle.otp_driven.specs.Replies.{AreAnswered, IsKept, IsReplyIn};
 ghost use Rattle.otp_driven.specs.declared.fault.DriveFault.TheVariants.{OutOfMemory};
 ghost use Rattle.otp_core.specs.View.{state_of};
@@ -19,11 +21,11 @@ ghost use Rattle.otp_rules.specs.Fit.{IsDistinct};
 ghost use Rattle.otp_rules.specs.Needs.{last_number, numbers_of};
 ghost use Rattle.otp_rules.specs.declared.event.Effect.TheVariants as effect;
 
-use crate::fault::{DriveFault, fault_of};
+use crate::fault::{ChangeRefusal, DriveFault, change_refusal, fault_of, resume_refusal};
 use crate::limits::KEPT_EVENTS;
-use otp_change::{ChangeFault, change};
-use otp_core::{Core, ReplyAnswer, ResumeFault, laws};
-use otp_order::check_order;
+use otp_change::change;
+use otp_change::laws::children_stay;
+use otp_core::{Base, Core, ReplyAnswer, laws};
 use otp_rules::{CountsNow, Effect, Kind, Phase, Reply};
 use otp_spec::{ChildSpec, MAX_READING, SupFlags, SupSpec};
 use otp_table::Row;
@@ -88,31 +90,53 @@ fn happen(core: &mut Core, reading: u64, kind: &Kind, last: u64) -> Result<u64, 
     }
 }
 
+/// The checkpoint of this core, under other flags and specifications.
+fn changed_base(
+    alloc: Global,
+    core: &Core,
+    flags: &SupFlags,
+    specs: &[ChildSpec],
+) -> Result<Base, ChangeRefusal>
+    requires { core.now.effects ≡ [] }
+    ensures state { IfOk result (λ base. state_of_base base ≡ changed flags.now specs.now (short_base_of (state_of core.now))) }
+    ensures number { IfOk result (λ base. base.counts.greatest_number ≡ max core.now.earlier.greatest_number (last_number core.now.history)) }
+    ensures possible { OnOk result (MayChange flags.now specs.now (short_base_of (state_of core.now))) }
+    ensures fault { IfErr result (IsUnchangedState flags.now specs.now (short_base_of (state_of core.now))) }
+{
+    let old = core.checkpoint(alloc)?;
+    match change(alloc, &old, flags, specs) {
+        Ok(new) => Ok(new),
+        Err(why) => Err(change_refusal(why)),
+    }
+}
+
 /// A core that goes on from the checkpoint of this one, under other flags and specifications.
 fn changed_core(
     alloc: Global,
     core: &Core,
     flags: &SupFlags,
     specs: &[ChildSpec],
-) -> Result<Core, ChangeFault>
-    requires { core.now.effects ≡ [] }
+) -> Result<Core, ChangeRefusal>
+    requires effects { core.now.effects ≡ [] }
+    requires apart { IsDistinct (core.now.earlier.greatest_number + 1) core.now.base }
+    requires above { All (λ n. core.now.earlier.greatest_number < n) (numbers_of core.now.history) }
     ensures base { IfOk result (λ new. new.base ≡ changed flags.now specs.now (short_base_of (state_of core.now))) }
-    ensures flags { IfOk result (λ new. new.base.flags ≡ flags.now) }
-    ensures numbers { IfOk result (λ new. new.earlier.greatest_number ≡ max core.now.earlier.greatest_number (last_number core.now.history)) }
+    ensures number { IfOk result (λ new. new.earlier.greatest_number ≡ max core.now.earlier.greatest_number (last_number core.now.history)) }
     ensures history { IfOk result (λ new. new.history ≡ []) }
+    ensures cut { IfOk result (λ new. new.cut ≡ 0) }
     ensures effects { IfOk result (λ new. new.effects ≡ []) }
     ensures apart { IfOk result (λ new. IsDistinct (new.earlier.greatest_number + 1) new.base) }
     ensures possible { OnOk result (MayChange flags.now specs.now (short_base_of (state_of core.now))) }
+    ensures fault { IfErr result (IsUnchangedAs flags.now specs.now (short_base_of (state_of core.now)) (max core.now.earlier.greatest_number (last_number core.now.history))) }
 {
-    let old = core.checkpoint(alloc)?;
-    let new = change(alloc, &old, flags, specs)?;
-    if let Err(_) = check_order(&new) {
-        return Err(ChangeFault::Busy);
-    }
-    match Core::resume(alloc, &new) {
+    laws::processes_are_owned();
+    children_stay();
+    let _lawful = core.history();
+    let _greatest = core.greatest_number();
+    let base = changed_base(alloc, core, flags, specs)?;
+    match Core::resume(alloc, &base) {
         Ok(core) => Ok(core),
-        Err(ResumeFault::OutOfMemory) => Err(ChangeFault::OutOfMemory),
-        Err(_) => Err(ChangeFault::Busy),
+        Err(why) => Err(resume_refusal(why)),
     }
 }
 
@@ -147,24 +171,24 @@ impl Supervisor {
         happen(&mut self.core, reading, kind, last)
     }
 
-    /// It goes on so under other flags and other specifications: a child of both keeps its process ([`otp_change::change`]). It
-    /// itself stays as it is.
+    /// The supervisor as it goes on under other flags and other specifications: a child of both keeps its process
+    /// ([`change`]). It itself stays as it is.
     ///
     /// # Errors
     ///
-    /// Those of [`otp_change::change`], and [`ChangeFault::Busy`] where an order was not taken. So it is, too, where the checkpoint
-    /// isn't in order, or no core goes on from it.
+    /// A [`ChangeRefusal`].
     pub fn changed(
         &self,
         alloc: Global,
         flags: &SupFlags,
         specs: &[ChildSpec],
-    ) -> Result<Supervisor, ChangeFault>
+    ) -> Result<Supervisor, ChangeRefusal>
         ensures ok { IfOk result (λ new. new ≡ changed_member flags.now specs.now self.now) }
-        ensures possible { OnOk result (MayChange flags.now specs.now (short_base_of (state_in self.now))) }
+        ensures possible { OnOk result (MayGoOn flags.now specs.now self.now) }
+        ensures fault { IfErr result (IsUnchanged flags.now specs.now self.now) }
     {
         if !self.core.effects().is_empty() {
-            return Err(ChangeFault::Busy);
+            return Err(ChangeRefusal::OrdersWait);
         }
         let core = changed_core(alloc, &self.core, flags, specs)?;
         Ok(Supervisor {
@@ -208,6 +232,14 @@ impl Supervisor {
         ensures { result ≡ self.now.base.flags }
     {
         self.flags
+    }
+
+    /// The specifications that it was opened with; under simple_one_for_one the one that all children share.
+    pub fn specs(&self) -> &[ChildSpec]
+        ensures { result.now ≡ self.now.base.specs }
+    {
+        laws::step_keeps_plan();
+        self.core.machine().specs.as_slice()
     }
 
     /// The children in start order.
