@@ -1,6 +1,6 @@
 //! A supervisor of the tree: its core, and how many of its orders were taken.
 
-ghost use Rattle.std.specs.Prelude.{◌≡◌, ℕ, All, ◌+◌, ◌≤◌, ◌<◌, ◌^◌, ◌-◌, ◌⊎◌, [], false, true, Some, is_some, max, min, slice_get, length, option_map, IfErr, IfOk, IfSome, OnOk, OnErr};
+ghost use Rattle.std.specs.Prelude.{◌≡◌, ◌==◌, not, ℕ, All, ◌+◌, ◌≤◌, ◌<◌, ◌^◌, ◌-◌, ◌⊎◌, [], false, true, Some, is_some, max, min, slice_get, length, option_map, IfErr, IfOk, IfSome, OnOk, OnErr};
 ghost use Rattle.otp_change.specs.Change.{MayChange, changed};
 ghost use Rattle.otp_core.specs.Happened.{HappenedAfter};
 ghost use Rattle.otp_driven.specs.declared.limits.TheConstants.{KEPT_EVENTS};
@@ -187,7 +187,7 @@ impl Supervisor {
         ensures possible { OnOk result (MayGoOn flags.now specs.now self.now) }
         ensures fault { IfErr result (IsUnchanged flags.now specs.now self.now) }
     {
-        if !self.core.effects().is_empty() {
+        if self.keeps_orders() {
             return Err(ChangeRefusal::OrdersWait);
         }
         let core = changed_core(alloc, &self.core, flags, specs)?;
@@ -225,6 +225,13 @@ impl Supervisor {
         ensures { result ≡ has_order self.now }
     {
         self.taken < self.core.effects().len()
+    }
+
+    /// Whether an order is kept: one that was not taken, or others before it.
+    pub fn keeps_orders(&self) -> bool
+        ensures { result ≡ not (length self.now.effects == 0) }
+    {
+        !self.core.effects().is_empty()
     }
 
     /// What it was opened with, the children aside.

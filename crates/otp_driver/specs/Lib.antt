@@ -7,3 +7,4 @@ pub mod Opened
 pub mod Sessions
 pub mod Agree
 pub mod Runs
+pub mod Changed
