@@ -11,7 +11,7 @@ use Rattle.otp_change.specs.declared.fault.ChangeFault.{ChangeFault}
 use Rattle.otp_change.specs.declared.fault.ChangeFault.TheVariants as change
 use Rattle.otp_driven.specs.Members.{Member, greatest, state_in}
 use Rattle.otp_driven.specs.declared.fault.ChangeRefusal.{ChangeRefusal}
-use Rattle.otp_driven.specs.declared.fault.ChangeRefusal.TheVariants.{OutOfMemory, OrdersWait, Change, Base as NoBase}
+use Rattle.otp_driven.specs.declared.fault.ChangeRefusal.TheVariants.{OutOfMemory, OrdersWait, Change, Base as NoBase, Runs, Turns}
 use Rattle.otp_rules.specs.Cuts.{short_base_of}
 use Rattle.otp_rules.specs.State.{State}
 use Rattle.otp_spec.specs.declared.child.ChildSpec.{ChildSpec}
@@ -45,9 +45,8 @@ HasNoCore flags specs s number why =
 -- why this state isn't changed: memory was refused, or one of these
 abbrev pub IsUnchangedState : SupFlags → List ChildSpec → State → ChangeRefusal → Type 0
 IsUnchangedState flags specs s OutOfMemory = ⊤
-IsUnchangedState flags specs s OrdersWait = ⊥
 IsUnchangedState flags specs s (Change why) = IsRefusal flags specs s why
-IsUnchangedState flags specs s (NoBase why) = ⊥
+IsUnchangedState flags specs s _ = ⊥
 
 -- why no core goes on from it
 abbrev pub IsUnchangedAs : SupFlags → List ChildSpec → State → ℕ → ChangeRefusal → Type 0
@@ -55,6 +54,8 @@ IsUnchangedAs flags specs s number OutOfMemory = ⊤
 IsUnchangedAs flags specs s number OrdersWait = ⊥
 IsUnchangedAs flags specs s number (Change why) = IsRefusal flags specs s why
 IsUnchangedAs flags specs s number (NoBase why) = MayChange flags specs s × HasNoCore flags specs s number why
+IsUnchangedAs flags specs s number Runs = ⊥
+IsUnchangedAs flags specs s number Turns = ⊥
 
 -- why a supervisor doesn't go on so: memory was refused, an order waits, or one of these
 abbrev pub IsUnchanged : SupFlags → List ChildSpec → Member → ChangeRefusal → Type 0
@@ -63,3 +64,5 @@ IsUnchanged flags specs m OrdersWait = ¬ (m.effects ≡ [])
 IsUnchanged flags specs m (Change why) = IsRefusal flags specs (short_base_of (state_in m)) why
 IsUnchanged flags specs m (NoBase why) =
     MayChange flags specs (short_base_of (state_in m)) × HasNoCore flags specs (short_base_of (state_in m)) (greatest m) why
+IsUnchanged flags specs m Runs = ⊥
+IsUnchanged flags specs m Turns = ⊥

@@ -69,6 +69,13 @@ pub enum ChangeRefusal {
     /// No supervisor goes on from what the change gives: as many events were counted as may be.
     #[error("{0}")]
     Base(BaseFault),
+    /// It is in the tree no more, and runs. A supervisor by itself is never refused for this.
+    #[error("it is in the new tree no more, and runs")]
+    Runs,
+    /// A child that has a process would be one of another kind: a supervisor of the tree, or none. A supervisor by itself is never
+    /// refused for this.
+    #[error("a child that has a process is of another kind in the new tree")]
+    Turns,
 }
 
 impl From<AllocError> for ChangeRefusal {

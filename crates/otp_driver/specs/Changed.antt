@@ -4,7 +4,6 @@ use Rattle.std.specs.Prelude.{◌≡◌, ◌⊎◌, ⊤, ℕ, ◌+◌, ◌<◌, 
 use Rattle.std.specs.List.{list_any}
 use Rattle.std.specs.Ordering.{on}
 use Rattle.std.specs.Str.{bytes_eq}
-use Rattle.otp_change.specs.declared.fault.ChangeFault.TheVariants.{Running}
 use Rattle.otp_file.specs.Trees.{Tree}
 use Rattle.otp_reason.specs.Names.{name_bytes}
 use Rattle.otp_reason.specs.declared.name.Name.{Name}
@@ -16,7 +15,7 @@ use Rattle.otp_driven.specs.Changed.{IsUnchanged, MayGoOn, changed_member}
 use Rattle.otp_driven.specs.Links.{holds_process, is_link_of, nested_of}
 use Rattle.otp_driven.specs.Members.{Member, row_at, state_in}
 use Rattle.otp_driven.specs.declared.fault.ChangeRefusal.{ChangeRefusal}
-use Rattle.otp_driven.specs.declared.fault.ChangeRefusal.TheVariants.{OutOfMemory, OrdersWait, Change}
+use Rattle.otp_driven.specs.declared.fault.ChangeRefusal.TheVariants.{OutOfMemory, OrdersWait, Runs, Turns}
 use Rattle.otp_driven.specs.declared.link.Link.{Link}
 use Rattle.otp_driver.specs.Driven.{Driven}
 use Rattle.otp_driver.specs.Opened.{IsPlanted}
@@ -106,7 +105,7 @@ goes_on link m = is_some link.process || not (is_over (state_in m).phase)
 -- why a supervisor may not go: an order waits, or it runs
 abbrev pub stay_fault : Bool → Link → Member → Option ChangeRefusal
 stay_fault true link m = None
-stay_fault false link m = if not (length m.effects == 0) then Some OrdersWait else if goes_on link m then Some (Change Running) else None
+stay_fault false link m = if not (length m.effects == 0) then Some OrdersWait else if goes_on link m then Some Runs else None
 
 abbrev pub stay_fault_in : Bool → Option Link → Option Member → Option ChangeRefusal
 stay_fault_in kept None o = None
@@ -177,7 +176,7 @@ IsHeldFrom olds origins number (m ∷ ms) u = IsHeldAt olds (origin_at origins n
 pub record IsUntied (origins : List (Option ℕ)) (t : Driven) (u : Unchanged) : Type 0 where
   pub place : ℕ
   pub supervisor : u.supervisor ≡ unwrap_or (origin_at origins place) 0
-  pub why : u.why ≡ Change Running
+  pub why : u.why ≡ Turns
   pub untied : is_untied t place ≡ true
 
 -- the old tree goes on as the one that was planted says: it may, and it does

@@ -1,13 +1,11 @@
 //! A tree goes on under another tree file.
 
 ghost use Rattle.std.specs.Prelude.{◌≡◌, ◌<◌, ◌⊎◌, ℕ, IfErr, IfNone, IfOk, IfSome, None, OnErr, OnOk, Some, false, length, option_map, position, true};
-ghost use Rattle.otp_change.specs.declared.fault.ChangeFault.TheVariants.{Running};
-ghost use Rattle.otp_driven.specs.declared.fault.ChangeRefusal.TheVariants.{Change, OutOfMemory};
+ghost use Rattle.otp_driven.specs.declared.fault.ChangeRefusal.TheVariants.{OutOfMemory};
 ghost use Rattle.otp_rules.specs.Progress.{process_number};
 ghost use Rattle.otp_driver.specs.Changed.{Changes, GoesOnAs, IsHeld, IsHeldAt, IsHeldFrom, IsUntied, MayGoOnAs, MayGoOnFrom, RefusesChange, are_same, at_origin, changed_from, child_named, is_kept, is_link_named, is_link_untied, is_untied, is_untied_row, link_on, links_from, member_on, members_from, origin_after, origin_at, origins_of, stay_fault, stay_fault_at};
 
 use crate::driver::Driver;
-use otp_change::ChangeFault;
 use otp_driven::link::{find_process, find_row, nested_of};
 use otp_driven::{ChangeRefusal, Link, Supervisor};
 use otp_file::TreeSpec;
@@ -23,8 +21,6 @@ use thiserror::Error;
 pub struct Unchanged {
     /// The number of the supervisor, in the tree that runs; 0 where memory was refused.
     pub supervisor: usize,
-    /// [`ChangeFault::Running`] also where a supervisor that the file no longer has runs, and where a child that has a process
-    /// would turn from a supervisor of the tree into another child, or back.
     pub why: ChangeRefusal,
 }
 
@@ -205,7 +201,7 @@ fn stay_fault(is_kept: bool, link: &Link, supervisor: &Supervisor) -> Option<Cha
         return Some(ChangeRefusal::OrdersWait);
     }
     if link.process.is_some() || !supervisor.has_ended() {
-        Some(ChangeRefusal::Change(ChangeFault::Running))
+        Some(ChangeRefusal::Runs)
     } else {
         None
     }
@@ -356,7 +352,7 @@ impl Driver {
             None => Ok(new),
             Some(place) => Err(Unchanged {
                 supervisor: origin_at(origins.as_slice(), place).unwrap_or(0),
-                why: ChangeRefusal::Change(ChangeFault::Running),
+                why: ChangeRefusal::Turns,
             }),
         }
     }

@@ -24,3 +24,5 @@ change_status (refusal.Change change.Turned) = 16
 change_status (refusal.Change change.Running) = 15
 change_status (refusal.Change change.OutOfMemory) = 4
 change_status (refusal.Base _) = 6
+change_status refusal.Runs = 15
+change_status refusal.Turns = 15
