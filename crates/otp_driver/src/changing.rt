@@ -137,12 +137,10 @@ fn members_on(
     ensures why { IfErr result (λ u. (u.why ≡ OutOfMemory) ⊎ IsHeldFrom olds.now origins.now 0 planted.items u) }
 {
     let mut list = Vec::new(alloc);
-    let mut number = 0;
     for supervisor in planted {
         list.reserve(1)?;
-        let new = member_on(alloc, olds, origin_at(origins, number), supervisor)?;
+        let new = member_on(alloc, olds, origin_at(origins, list.len()), supervisor)?;
         list.push_reserved(new);
-        number += 1;
     }
     Ok(list)
 }
