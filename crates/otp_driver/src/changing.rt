@@ -289,7 +289,10 @@ impl Driver {
     {
         let links = self.links.as_slice();
         if let Some(supervisor) = self.supervisors.get(place)
-            && supervisor.rows().iter().any(|row| is_untied_row(links, place, row))
+            && supervisor
+                .rows()
+                .iter()
+                .any(|row| is_untied_row(links, place, row))
         {
             return true;
         }
@@ -320,7 +323,12 @@ impl Driver {
         ensures may { OnOk result (MayGoOnFrom self.now.members origins.now 0 planted.members) }
         ensures why { IfErr result (λ u. (u.why ≡ OutOfMemory) ⊎ IsHeldFrom self.now.members origins.now 0 planted.members u) }
     {
-        let links = links_on(alloc, self.links.as_slice(), origins, planted.links.as_slice())?;
+        let links = links_on(
+            alloc,
+            self.links.as_slice(),
+            origins,
+            planted.links.as_slice(),
+        )?;
         let supervisors = members_on(
             alloc,
             self.supervisors.as_slice(),

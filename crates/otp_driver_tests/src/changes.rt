@@ -53,18 +53,15 @@ const DYNAMIC: &[u8] = b"strategy = \"simple_one_for_one\"\n[[child]]\nid = \"w\
 const NONE: &[u8] = b"";
 
 /// Has the tree go on under a file, once more where memory was refused. Why it doesn't.
-fn change(
-    rt: &impl Abort,
-    alloc: Global,
-    session: &mut Session,
-    text: &[u8],
-) -> Option<Unchanged> {
+fn change(rt: &impl Abort, alloc: Global, session: &mut Session, text: &[u8]) -> Option<Unchanged> {
     let tree = tree_of(rt, alloc, text);
     let changed = match session.change(alloc, &tree) {
-        Err(Unchanged {
-            why: ChangeRefusal::OutOfMemory,
-            ..
-        }) => session.change(alloc, &tree),
+        Err(
+            Unchanged {
+                why: ChangeRefusal::OutOfMemory,
+                ..
+            },
+        ) => session.change(alloc, &tree),
         changed => changed,
     };
     drop(tree);
@@ -115,12 +112,7 @@ const STOPS: [(u64, Step); 5] = [
 fn goes_on(rt: &impl Abort, alloc: Global, session: &mut Session) {
     play(rt, alloc, session, &BEGINS);
     play(rt, alloc, session, &CRASHES);
-    same(
-        rt,
-        "another file",
-        change(rt, alloc, session, OTHER),
-        None,
-    );
+    same(rt, "another file", change(rt, alloc, session, OTHER), None);
     play_at(rt, alloc, session, &GOES_ON);
     play_at(rt, alloc, session, &STOPS);
 }
@@ -132,29 +124,58 @@ fn a_tree_goes_on_under_another_file(rt: HostRuntime) {
     drop(session);
 }
 
-/// The supervisor of this number is why it doesn't go on.
-const fn by(supervisor: usize, why: ChangeRefusal) -> Option<Unchanged> {
-    Some(Unchanged { supervisor, why })
-}
-
 /// Steps, a file, and why the tree doesn't go on under it then.
 type Stage = (&'static [Step], &'static [u8], Option<Unchanged>);
 
 const REFUSED: [Stage; 9] = [
-    (&[], SHOP, by(0, ChangeRefusal::OrdersWait)),
+    (
+        &[],
+        SHOP,
+        Some(Unchanged {
+            supervisor: 0,
+            why: ChangeRefusal::OrdersWait,
+        }),
+    ),
     (
         &[BEGINS[0]],
         SHOP,
-        by(0, ChangeRefusal::Change(ChangeFault::Busy)),
+        Some(Unchanged {
+            supervisor: 0,
+            why: ChangeRefusal::Change(ChangeFault::Busy),
+        }),
     ),
     (
         &[BEGINS[1], BEGINS[2], BEGINS[3]],
         NO_WEB,
-        by(0, ChangeRefusal::Change(ChangeFault::Running)),
+        Some(Unchanged {
+            supervisor: 0,
+            why: ChangeRefusal::Change(ChangeFault::Running),
+        }),
     ),
-    (&[], NO_POOL, by(1, ChangeRefusal::Runs)),
-    (&[], POOL_OUTSIDE, by(1, ChangeRefusal::Runs)),
-    (&[], WEB_INSIDE, by(0, ChangeRefusal::Turns)),
+    (
+        &[],
+        NO_POOL,
+        Some(Unchanged {
+            supervisor: 1,
+            why: ChangeRefusal::Runs,
+        }),
+    ),
+    (
+        &[],
+        POOL_OUTSIDE,
+        Some(Unchanged {
+            supervisor: 1,
+            why: ChangeRefusal::Runs,
+        }),
+    ),
+    (
+        &[],
+        WEB_INSIDE,
+        Some(Unchanged {
+            supervisor: 0,
+            why: ChangeRefusal::Turns,
+        }),
+    ),
     // Once the worker has no process, it may be a supervisor.
     (
         &[
@@ -171,7 +192,10 @@ const REFUSED: [Stage; 9] = [
             (2, "exit 3 shutdown", "0 reply 2;"),
         ],
         DYNAMIC,
-        by(0, ChangeRefusal::Change(ChangeFault::Turned)),
+        Some(Unchanged {
+            supervisor: 0,
+            why: ChangeRefusal::Change(ChangeFault::Turned),
+        }),
     ),
     (&[], NONE, None),
 ];

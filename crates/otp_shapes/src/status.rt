@@ -78,9 +78,8 @@ pub fn change_status(why: ChangeRefusal) -> u32
     match why {
         ChangeRefusal::OutOfMemory | ChangeRefusal::Change(ChangeFault::OutOfMemory) => OTP_MEMORY,
         ChangeRefusal::OrdersWait | ChangeRefusal::Change(ChangeFault::Busy) => OTP_BUSY,
-        ChangeRefusal::Change(ChangeFault::Running)
-        | ChangeRefusal::Runs
-        | ChangeRefusal::Turns => OTP_RUNNING,
+        ChangeRefusal::Change(ChangeFault::Running) | ChangeRefusal::Runs | ChangeRefusal::Turns =>
+            OTP_RUNNING,
         ChangeRefusal::Change(ChangeFault::Turned) => OTP_TURNED,
         ChangeRefusal::Change(ChangeFault::Spec(_)) => OTP_BAD_TREE,
         ChangeRefusal::Base(_) => OTP_SPENT,

@@ -21,8 +21,8 @@ returns-in-Ok-clause-above c =
     let is : HappenedAfter KEPT_EVENTS c.args.last c.args.reading c.args.kind.now c.args.core.now c.happen_after.new.self c.in-Ok.after = (c.in-Ok.ensures {u = tt}).ok in
     let event : Event = record { reading = c.args.reading; number = is.number; kind = c.args.kind.now } in
     λ n less h.
-        subst (λ (events : List Event). All (λ m. n < m) (numbers_of events)) (sym is.happened.history)
-        (above_on n c.args.last c.args.core.now.history event (needs_number (state_of c.args.core.now) c.args.reading c.args.kind.now) is.number_is less h)
+    subst (λ (events : List Event). All (λ m. n < m) (numbers_of events)) (sym is.happened.history)
+    (above_on n c.args.last c.args.core.now.history event (needs_number (state_of c.args.core.now) c.args.reading c.args.kind.now) is.number_is less h)
 
 pub returns-in-Err-clause-why : goal.returns-in-Err-clause-why
 returns-in-Err-clause-why c =
