@@ -137,7 +137,7 @@ const REFUSED: [Stage; 9] = [
         }),
     ),
     (
-        &[BEGINS[0]],
+        &[(0, "", "0 start web serve #1;")],
         SHOP,
         Some(Unchanged {
             supervisor: 0,
@@ -145,7 +145,11 @@ const REFUSED: [Stage; 9] = [
         }),
     ),
     (
-        &[BEGINS[1], BEGINS[2], BEGINS[3]],
+        &[
+            (0, "up 1", "1 start a work #3;"),
+            (1, "up 3", "1 start b work #4;"),
+            (1, "up 4", "0 ready;"),
+        ],
         NO_WEB,
         Some(Unchanged {
             supervisor: 0,
