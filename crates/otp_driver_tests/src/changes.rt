@@ -216,7 +216,7 @@ fn refused(rt: &impl Abort, alloc: Global, session: &mut Session) {
         change(rt, alloc, session, DYNAMIC),
         None,
     );
-    play(rt, alloc, session, &[(0, "start", "0 start #5 w #5;")]);
+    play(rt, alloc, session, &[(0, "start", "0 start - w #5;")]);
 }
 
 #[test]
