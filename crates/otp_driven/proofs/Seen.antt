@@ -1,5 +1,5 @@
 -- The child that has a process is the only one.
-use Rattle.std.proofs.Common.{◌≡◌, ◌∙◌, ◌<◌, ◌≤◌, ℕ, List, Option, None, Some, ap, arith, get_or, length, subst, sym, take}
+use Rattle.std.proofs.Common.{◌≡◌, ◌∙◌, ◌<◌, ◌≤◌, ℕ, List, None, Some, ap, arith, get_or, length, take}
 use Rattle.std.specs.Prelude.{Bool, true, false, All, ◌+◌, cond, count_by, nat_lt, position, slice_get}
 use Rattle.std.specs.List.{position_or_len, sum_by}
 use Rattle.std.proofs.lemmas.Bool.{false_from_ne_true, lt-ltb}
@@ -13,8 +13,6 @@ use Rattle.otp_rules.specs.Processes.{ProcessesStayOwned}
 use Rattle.otp_rules.specs.Run.{state_after}
 use Rattle.otp_rules.specs.State.{State}
 use Rattle.otp_rules.specs.declared.event.Event.{Event}
-use Rattle.otp_spec.specs.declared.child.ChildSpec.{ChildSpec}
-use Rattle.otp_spec.specs.declared.flags.SupFlags.{SupFlags}
 use Rattle.otp_table.specs.Rows.{has_process, row_has}
 use Rattle.otp_table.specs.declared.row.Row.{Row}
 use Rattle.otp_driven.specs.Members.{row_at, row_in}

@@ -77,6 +77,8 @@ fn happen(core: &mut Core, reading: u64, kind: &Kind, last: u64) -> Result<u64, 
     ensures ok { IfOk result (λ after. HappenedAfter KEPT_EVENTS last reading kind.now core.old core.new after) }
     ensures err { OnErr result (core.new ≡ record core.old { prepared = core.new.prepared }) }
     ensures why { IfErr result (λ why. (why ≡ OutOfMemory) ⊎ HasNoRoom core.old.base core.old.history core.old.effects why) }
+    ensures base { core.new.base ≡ core.old.base }
+    ensures earlier { core.new.earlier ≡ core.old.earlier }
     ensures above { (n : ℕ) → n ≤ last → All (λ m. n < m) (numbers_of core.old.history) → All (λ m. n < m) (numbers_of core.new.history) }
     // What a cut drops is no answer that an order tells of.
     ensures answered { AreAnswered core.old → AreAnswered core.new }
@@ -190,13 +192,15 @@ impl Supervisor {
         if self.keeps_orders() {
             return Err(ChangeRefusal::OrdersWait);
         }
-        let core = changed_core(alloc, &self.core, flags, specs)?;
-        Ok(Supervisor {
-            flags: *flags,
-            core,
-            taken: 0,
-            seen: 0,
-        })
+        match changed_core(alloc, &self.core, flags, specs) {
+            Ok(core) => Ok(Supervisor {
+                flags: *flags,
+                core,
+                taken: 0,
+                seen: 0,
+            }),
+            Err(why) => Err(why),
+        }
     }
 
     /// The next order that was not taken.

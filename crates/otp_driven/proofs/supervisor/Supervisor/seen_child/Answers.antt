@@ -2,7 +2,6 @@ use Rattle.std.specs.Prelude.{◌≡◌, Some, All, slice_get}
 use Rattle.std.proofs.Common.{◌+◌, ◌<◌, ℕ, arith, rules, subst}
 use Rattle.otp_core.specs.View.{View, state_of}
 use Rattle.otp_rules.specs.Needs.{IsLawfulHistory, numbers_of}
-use Rattle.otp_table.specs.Rows.{has_process}
 use Rattle.otp_table.specs.declared.row.Row.{Row}
 use Rattle.otp_driven.specs.Members.{Member, row_at, state_in}
 use Rattle.otp_driven.proofs.Seen.{only_row}
