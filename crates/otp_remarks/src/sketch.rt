@@ -74,7 +74,7 @@ pub fn moment_of(
 
 /// How the supervisors of a trial stand, once this line of the script was played.
 pub fn moment_at(alloc: Global, trial: &Trial, line: u64) -> Result<Moment, AllocError>
-    ensures { IfOk result (λ moment. (time : ℕ) × ((others : List Bool) × (moment ≡ moment_of line time trial.now (true ∷ others)))) }
+    ensures { IfOk result (λ moment. (time : ℕ) × ((others : List Bool) × (moment ≡ moment_of line time trial.now.seats (true ∷ others)))) }
 {
     let running = trial.running()?;
     moment_of(alloc, line, trial.now(), trial.seats(), running.as_slice())

@@ -28,7 +28,7 @@ struct Close<'a> {
 
 /// Appends how the supervisors stand, and what they await.
 pub fn write_all_standings(trial: &Trial, out: &mut Vec<u8>) -> Result<(), AllocError>
-    ensures { OnOk result ((now : ℕ) × (others : List Bool) × (out.new.items ≡ out.old.items ++ standings_text now trial.now (true ∷ others))) }
+    ensures { OnOk result ((now : ℕ) × (others : List Bool) × (out.new.items ≡ out.old.items ++ standings_text now trial.now.seats (true ∷ others))) }
 {
     let now = trial.now();
     let running = trial.running()?;
@@ -91,7 +91,7 @@ pub fn summary_of(
     is_quiet: bool,
     is_played: bool,
 ) -> Result<Vec<u8>, AllocError>
-    ensures { IfOk result (λ lines. IsSummary trial.now lines.items) }
+    ensures { IfOk result (λ lines. IsSummary trial.now.seats lines.items) }
 {
     let running = trial.running()?;
     let close = Close {
@@ -112,7 +112,7 @@ pub fn write_trial_verdict(
     is_played: bool,
     out: &mut Vec<u8>,
 ) -> Result<(), AllocError>
-    ensures { OnOk result ((by : Clock) × ((others : List Bool) × (out.new.items ≡ out.old.items ++ whole_verdict is_played by trial.now (true ∷ others)))) }
+    ensures { OnOk result ((by : Clock) × ((others : List Bool) × (out.new.items ≡ out.old.items ++ whole_verdict is_played by trial.now.seats (true ∷ others)))) }
 {
     let running = trial.running()?;
     write_verdict(

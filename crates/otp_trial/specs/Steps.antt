@@ -1,5 +1,6 @@
 -- A line of a script, done on a trial (own).
-use Rattle.std.specs.Prelude.{ℕ, ◌+◌, ◌-◌, ◌^◌, Bool, true, false, not, ◌&&◌, List, Option, Some, None, if◌then◌else◌, is_some, min, nat_lt, position, slice_get}
+use Prim.Native.Nat.{zero, suc}
+use Rattle.std.specs.Prelude.{◌≡◌, ℕ, ◌+◌, ◌-◌, ◌^◌, Bool, true, false, not, ◌&&◌, List, max, Option, Some, None, if◌then◌else◌, is_some, min, nat_lt, position, slice_get}
 use Rattle.otp_reason.specs.declared.name.Name.{Name}
 use Rattle.otp_script.specs.declared.step.Action.{Action}
 use Rattle.otp_script.specs.declared.step.Action.TheVariants as action
@@ -10,7 +11,7 @@ use Rattle.otp_script.specs.declared.step.When.{When}
 use Rattle.otp_script.specs.declared.step.When.TheVariants as when
 use Rattle.otp_spec.specs.declared.limits.TheConstants.{MAX_READING}
 use Rattle.otp_table.specs.Rows.{has_id}
-use Rattle.otp_trial.specs.Played.{Seated, is_root_over, state_in}
+use Rattle.otp_trial.specs.Played.{Seated, Stand, Tells, is_root_over, state_in}
 use Rattle.otp_trial.specs.declared.trial.ActionEnd.{ActionEnd}
 use Rattle.otp_trial.specs.declared.trial.ActionEnd.TheVariants as taken
 
@@ -62,3 +63,26 @@ without_process has_ended (action.Expect (expected.Ended c)) = taken.Done
 without_process has_ended (action.Expect expected.Over) = taken.Done
 without_process has_ended (action.Expect _) = taken.Unmet
 without_process has_ended _ = unless_ended has_ended taken.NotRunning
+
+-- the clock goes to this time, unless it is past it, and then what a line says is done: all of that at one time
+pub record DoesAt (time : ℕ) (old new : Stand) (before after : List ℕ) : Type 0 where
+  pub mid : Stand
+  pub between : List ℕ
+  pub goes : Tells old mid before between
+  pub time_is : mid.time ≡ max old.time time
+  pub does : Tells mid new between after
+  pub stays : new.time ≡ mid.time
+
+-- a line is done at its time where that has not gone by; else nothing is
+abbrev pub DoesWhen : Option ℕ → Stand → Stand → List ℕ → List ℕ → Type 0
+DoesWhen None old new before after = (new ≡ old) × (after ≡ before)
+DoesWhen (Some time) old new before after = DoesAt time old new before after
+
+-- a line is done so often, each time when it says
+abbrev pub DoesOften : When → ℕ → Stand → Stand → List ℕ → List ℕ → Type 0
+DoesOften when zero old new before after = (new ≡ old) × (after ≡ before)
+DoesOften when (suc n) old new before after =
+    (mid : Stand) × ((between : List ℕ) × (DoesOften when n old mid before between × DoesWhen (time_at mid.time when) mid new between after))
+
+abbrev pub DoesSome : When → Stand → Stand → List ℕ → List ℕ → Type 0
+DoesSome when old new before after = (times : ℕ) × DoesOften when times old new before after

@@ -3,7 +3,7 @@
 use Rattle.std.specs.Prelude.{◌≡◌, ℕ, Bool, true, false, Option, List, [], ◌∷◌, ◌++◌, codes, map, slice_set}
 use Rattle.otp_timeline.specs.declared.moment.Moment.{Moment}
 use Rattle.otp_remarks.specs.Lines.{heading_line, known_text, left_out_text, unmet_text}
-use Rattle.otp_trial.specs.Played.{IsAt, Lead, Move, Seated, fresh, move_text, seat_after}
+use Rattle.otp_trial.specs.Played.{IsAt, IsRead, Makes, Move, Seated, Stand, at_start, fresh, move_text, seat_after}
 use Rattle.otp_remarks.specs.Prompt.{prompt_text, standings_text}
 use Rattle.otp_remarks.specs.Sketched.{drawing}
 use Rattle.otp_remarks.specs.Summaries.{summary_text}
@@ -79,28 +79,39 @@ remark_text (Summary is_quiet is_played by now running plans hanging) seats = su
 remark_text (Picture is_coloured drawn moments) seats = drawing is_coloured drawn moments
 
 -- what comes next of a run: a move, or something is said; or a person wants lines undone: the tree stands as at the beginning of
--- the run, and then these moves are made, of which nothing is told, and lead to these supervisors
+-- the run, and then these moves are made, of which nothing is told, and the run stands so
 pub data Piece : Type 0 where
   Moved : Move → Piece
   Said : Remark → Piece
-  Undone : List Move → List Seated → Piece
+  Undone : List Move → Stand → Piece
 
--- the moves among the pieces lead from these supervisors to those
-abbrev pub Leads : List Seated → List Piece → List Seated → Type 0
-Leads seats [] after = after ≡ seats
-Leads seats (Moved m ∷ ps) after = IsAt seats m.place m.seat × Leads (slice_set seats m.place (seat_after m)) ps after
-Leads seats (Said r ∷ ps) after = Leads seats ps after
-Leads seats (Undone ms other ∷ ps) after = Lead (map fresh seats) ms other × Leads other ps after
+-- a run that stands so after a move
+abbrev pub moved_by : Move → Stand → Stand
+moved_by m stand = record stand { seats = slice_set stand.seats m.place (seat_after m); time = m.time }
+
+-- the clock went on, and nothing else
+pub record Waits (old new : Stand) : Type 0 where
+  pub seats : new.seats ≡ old.seats
+  pub clock : new.clock ≡ old.clock
+  pub time : old.time ≤ new.time
+
+-- the moves among the pieces lead from a run that stands so to one that stands so; each event is read off the clock
+abbrev pub Leads : Stand → List Piece → Stand → Type 0
+Leads stand [] after = Waits stand after
+Leads stand (Moved m ∷ ps) after =
+    IsAt stand.seats m.place m.seat × ((stand.time ≤ m.time) × (IsRead stand.clock m.time m.event × Leads (moved_by m stand) ps after))
+Leads stand (Said r ∷ ps) after = Leads stand ps after
+Leads stand (Undone ms other ∷ ps) after = Makes (at_start stand.clock (map fresh stand.seats)) ms other × Leads other ps after
 
 -- the text of pieces, from these supervisors on: of each move the lines of those of its orders that are told
 abbrev pub pieces_text : List Seated → List Piece → List ℕ
 pieces_text seats [] = []
 pieces_text seats (Moved m ∷ ps) = move_text m ++ pieces_text (slice_set seats m.place (seat_after m)) ps
 pieces_text seats (Said r ∷ ps) = remark_text r seats ++ pieces_text seats ps
-pieces_text seats (Undone ms other ∷ ps) = pieces_text other ps
+pieces_text seats (Undone ms other ∷ ps) = pieces_text other.seats ps
 
 -- the run went on so, and its pieces were put behind the text, in order: no move of the supervisors is left out
-pub record Adds (old new : List Seated) (before after : List ℕ) : Type 0 where
+pub record Adds (old new : Stand) (before after : List ℕ) : Type 0 where
   pub pieces : List Piece
   pub lead : Leads old pieces new
-  pub text : after ≡ before ++ pieces_text old pieces
+  pub text : after ≡ before ++ pieces_text old.seats pieces

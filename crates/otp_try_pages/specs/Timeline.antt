@@ -113,4 +113,4 @@ timeline_page name seats account verdict =
 abbrev pub TellsPage : List ℕ → Account → List ℕ → Type 0
 TellsPage name account page =
     (by : Clock) × ((others : List Bool)
-    × (page ≡ timeline_page name account.trial account (whole_verdict (is_played account.end) by account.trial (true ∷ others))))
+    × (page ≡ timeline_page name account.trial.seats account (whole_verdict (is_played account.end) by account.trial.seats (true ∷ others))))
