@@ -6,7 +6,10 @@ use Rattle.otp_account.specs.declared.account.Account.{Account}
 use Rattle.otp_account.specs.declared.account.Played.{Played}
 use Rattle.otp_file.specs.Trees.{Tree}
 use Rattle.otp_rules.specs.declared.event.Kind.TheVariants as kind
-use Rattle.otp_trial.specs.Played.{IsPlanted, Seated, Stand, Tells, TellsFirst, at_start}
+use Rattle.otp_script.specs.declared.step.When.{When}
+use Rattle.otp_trial.specs.Played.{IsPlanted, Seated, Stand, TellsFirst, at_start}
+use Rattle.otp_trial.specs.Steps.{TellsTimes}
+use Rattle.otp_trial.specs.declared.trial.ActionEnd.{ActionEnd}
 use Rattle.otp_trial.specs.declared.clock.Clock.{Clock}
 
 pub runs_on : (old : Stand) (ones : List Played) (mid : Stand) (more : List Played) (new : Stand)
@@ -30,17 +33,18 @@ adds_more old before mid between new after (ones, (ran, is)) (more, (runs, then)
     (ones ++ more, (runs_on old ones mid more new ran runs, then ∙ ap (λ (ls : List Played). ls ++ more) is ∙ append_assoc before ones more))
 
 -- a line was played: what it did was told on an empty sheet
-pub played : (old mid new : Stand) (one : Played) (before told : List ℕ) → mid ≡ old → before ≡ [] → Tells mid new before told
-    → one.told.items ≡ told → StandsSo one new.seats → IsPlayed old one new
-played old mid new one before told same empty tells is stands =
-    let own : Tells old new before told = subst (λ (s : Stand). Tells s new before told) same tells in
-    let all : Tells old new [] told = subst (λ (t : List ℕ). Tells old new t told) empty own in
-    (subst (λ (t : List ℕ). Tells old new [] t) (sym is) all, stands)
+pub played : (when : When) (times : ℕ) (end : ActionEnd) (old mid new : Stand) (one : Played) (before told : List ℕ) → mid ≡ old → before ≡ []
+    → TellsTimes when times end mid new before told → one.told.items ≡ told → one.outcome.taken ≡ end → StandsSo one new → IsPlayed old one new
+played when times end old mid new one before told same empty tells is came stands =
+    let own : TellsTimes when times end old new before told = subst (λ (s : Stand). TellsTimes when times end s new before told) same tells in
+    let all : TellsTimes when times end old new [] told = subst (λ (t : List ℕ). TellsTimes when times end old new t told) empty own in
+    let kept : TellsTimes when times end old new [] one.told.items = subst (λ (t : List ℕ). TellsTimes when times end old new [] t) (sym is) all in
+    (when, (times, (subst (λ (e : ActionEnd). TellsTimes when times e old new [] one.told.items) (sym came) kept, stands)))
 
 -- a run that was kept, from its opening and its lines
 pub account_is : (tree : Tree) (planted : List Seated) (clock : Clock) (opened : Stand) (account : Account) (before told : List ℕ) (none : List Played) → before ≡ [] → none ≡ []
     → IsPlanted true tree planted → TellsFirst 0 (kind.Opened 0) (at_start clock planted) opened before told → account.opening.told.items ≡ told
-    → StandsSo account.opening opened.seats → Adds opened none account.trial account.lines.items → IsAccount tree account
+    → StandsSo account.opening opened → Adds opened none account.trial account.lines.items → IsAccount tree account
 account_is tree planted clock opened account before told none empty nothing is opens told_is stands (more, (ran, lines_are)) =
     let own : TellsFirst 0 (kind.Opened 0) (at_start clock planted) opened [] told =
     subst (λ (t : List ℕ). TellsFirst 0 (kind.Opened 0) (at_start clock planted) opened t told) empty opens in

@@ -4,17 +4,21 @@ use Rattle.otp_account.specs.declared.account.Account.{Account}
 use Rattle.otp_account.specs.declared.account.Played.{Played}
 use Rattle.otp_file.specs.Trees.{Tree}
 use Rattle.otp_rules.specs.declared.event.Kind.TheVariants as kind
-use Rattle.otp_trial.specs.Played.{IsPlanted, Seated, Stand, Tells, TellsFirst, at_start}
+use Rattle.otp_script.specs.declared.step.When.{When}
+use Rattle.otp_trial.specs.Played.{IsPlanted, Seated, Stand, TellsFirst, at_start, now_of}
+use Rattle.otp_trial.specs.Steps.{TellsTimes}
 use Rattle.otp_trial.specs.declared.clock.Clock.{Clock}
 use Rattle.otp_remarks.specs.Sketched.{moment_of}
 
--- the moment of a line shows how these supervisors stand, of which the root has a process
-abbrev pub StandsSo : Played → List Seated → Type 0
-StandsSo one seats = (time : ℕ) × ((others : List Bool) × (one.moment ≡ moment_of one.number time seats (true ∷ others)))
+-- the moment of a line shows how a run stands, and at what its clock shows; the root has a process
+abbrev pub StandsSo : Played → Stand → Type 0
+StandsSo one stand = (others : List Bool) × (one.moment ≡ moment_of one.number (now_of stand) stand.seats (true ∷ others))
 
--- what a line did was told: all orders of the moves that led from these supervisors to those, in their order
+-- a line was done as often as it says, each time when it says, and came to what is kept; what it did was told: all orders of its
+-- moves, in their order
 abbrev pub IsPlayed : Stand → Played → Stand → Type 0
-IsPlayed old one new = Tells old new [] one.told.items × StandsSo one new.seats
+IsPlayed old one new =
+    (when : When) × ((times : ℕ) × (TellsTimes when times one.outcome.taken old new [] one.told.items × StandsSo one new))
 
 -- the lines were played one after the other: no move is left out
 abbrev pub RunsOn : Stand → List Played → Stand → Type 0
@@ -33,5 +37,5 @@ pub record IsAccount (tree : Tree) (account : Account) : Type 0 where
   pub clock : Clock
   pub opened : Stand
   pub opens : TellsFirst 0 (kind.Opened 0) (at_start clock planted) opened [] account.opening.told.items
-  pub stands : StandsSo account.opening opened.seats
+  pub stands : StandsSo account.opening opened
   pub ran : RunsOn opened account.lines.items account.trial

@@ -32,7 +32,8 @@ fn note(
     outcome: Outcome,
 ) -> Result<Played, AllocError>
     ensures told { IfOk result (λ one. one.told.items ≡ told.items) }
-    ensures stands { IfOk result (λ one. StandsSo one trial.now.seats) }
+    ensures came { IfOk result (λ one. one.outcome ≡ outcome) }
+    ensures stands { IfOk result (λ one. StandsSo one trial.now) }
 {
     let moment = moment_at(alloc, trial, number)?;
     let line = copy_of(alloc, line)?;
@@ -165,7 +166,7 @@ fn play_lines(
 /// What is kept of the opening of a tree of which this was told.
 fn opening_of(alloc: Global, trial: &Trial, told: Vec<u8>) -> Result<Played, AllocError>
     ensures told { IfOk result (λ one. one.told.items ≡ told.items) }
-    ensures stands { IfOk result (λ one. StandsSo one trial.now.seats) }
+    ensures stands { IfOk result (λ one. StandsSo one trial.now) }
 {
     let outcome = Outcome {
         is_unknown: false,

@@ -49,7 +49,7 @@ passed-append : (clock : Clock) (from mid to : ℕ) (xs ys : List Move) → AreP
 passed-append clock from mid to [] ys first second = passed_before clock from mid to ys first second
 passed-append clock from mid to (x ∷ xs) ys (after, (read, rest)) second = (after, (read, passed-append clock x.time mid to xs ys rest second))
 
-makes-append : (a b c : Stand) (xs ys : List Move) → Makes a xs b → Makes b ys c → Makes a (xs ++ ys) c
+pub makes-append : (a b c : Stand) (xs ys : List Move) → Makes a xs b → Makes b ys c → Makes a (xs ++ ys) c
 makes-append a b c xs ys first second = record {
   lead = lead-append a.seats b.seats c.seats xs ys first.lead second.lead;
   clock = second.clock ∙ first.clock;
@@ -57,7 +57,11 @@ makes-append a b c xs ys first second = record {
       (subst (λ (clock : Clock). ArePassed clock b.time ys c.time) first.clock second.passed);
 }
 
-story-append : (xs ys : List Move) → story (xs ++ ys) ≡ story xs ++ story ys
+-- nothing happened
+pub makes_none : (a b : Stand) → b ≡ a → Makes a [] b
+makes_none a b same = subst (λ (s : Stand). Makes a [] s) (sym same) (record { lead = refl; clock = refl; passed = omega arith })
+
+pub story-append : (xs ys : List Move) → story (xs ++ ys) ≡ story xs ++ story ys
 story-append [] ys = refl
 story-append (x ∷ xs) ys =
     ap (λ (text : List ℕ). move_text x ++ text) (story-append xs ys) ∙ sym (append_assoc (move_text x) (story xs) (story ys))

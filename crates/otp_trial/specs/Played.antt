@@ -115,6 +115,10 @@ pub record Stand : Type 0 where
   pub clock : Clock
   pub time : ℕ
 
+-- what its clock shows
+abbrev pub now_of : Stand → ℕ
+now_of s = shown s.clock s.time
+
 -- one of these supervisors, before anything happens
 abbrev pub at_start : Clock → List Seated → Stand
 at_start clock seats = record { seats = seats; clock = clock; time = 0 }

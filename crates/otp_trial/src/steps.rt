@@ -1,9 +1,9 @@
 //! A line of a script, done on a trial: at which supervisor, when, how often, and what came of it.
 
-ghost use Rattle.std.specs.Prelude.{◌≡◌, ◌≤◌, ◌<◌, OnOk, IfSome, length};
+ghost use Rattle.std.specs.Prelude.{◌≡◌, ◌≤◌, ◌<◌, IfOk, OnOk, IfSome, length};
 ghost use Rattle.otp_spec.specs.declared.limits.TheConstants.{MAX_READING};
 ghost use Rattle.otp_trial.specs.Played.{Tells};
-ghost use Rattle.otp_trial.specs.Steps.{DoesAt, DoesSome, DoesWhen, knows, means_nobody, number_meant, number_of, time_at, unless_ended, without_process};
+ghost use Rattle.otp_trial.specs.Steps.{TellsAt, TellsTimes, TellsWhen, goes_on, knows, means_nobody, number_meant, number_of, time_at, unless_ended, without_process};
 
 use crate::seat::Seat;
 use crate::trial::{ActionEnd, Halt, Trial};
@@ -150,7 +150,7 @@ fn act(trial: &mut Trial, step: Step<'_>, out: &mut Vec<u8>) -> Result<ActionEnd
 /// The clock goes to this time, and then what a line says is done.
 fn do_at(trial: &mut Trial, time: u64, step: Step<'_>, out: &mut Vec<u8>) -> Result<Outcome, Halt>
     requires { time ≤ MAX_READING }
-    ensures { OnOk result (DoesAt time trial.old trial.new out.old.items out.new.items) }
+    ensures { OnOk result (TellsAt time trial.old trial.new out.old.items out.new.items) }
 {
     trial.go_to(time, out)?;
     let is_unknown = means_nobody(trial, named_in(step.action), place_of(trial, step));
@@ -160,7 +160,7 @@ fn do_at(trial: &mut Trial, time: u64, step: Step<'_>, out: &mut Vec<u8>) -> Res
 
 /// What a line says: the clock goes on, and then it is done, unless its time has gone by.
 fn do_step(trial: &mut Trial, step: Step<'_>, out: &mut Vec<u8>) -> Result<Outcome, Halt>
-    ensures { OnOk result (DoesWhen (time_at trial.old.time step.when) trial.old trial.new out.old.items out.new.items) }
+    ensures { OnOk result (TellsWhen (time_at trial.old.time step.when) trial.old trial.new out.old.items out.new.items) }
 {
     match time_at(trial.time(), step.when) {
         None => Ok(Outcome {
@@ -171,21 +171,32 @@ fn do_step(trial: &mut Trial, step: Step<'_>, out: &mut Vec<u8>) -> Result<Outco
     }
 }
 
+/// Whether a line that came to this is done again, where it says so.
+#[tactic(auto, unfolding(crate::specs::Steps::goes_on))]
+fn goes_on(taken: ActionEnd, has_ended: bool) -> bool
+    ensures { result ≡ goes_on taken has_ended }
+{
+    match taken {
+        ActionEnd::Done => !has_ended,
+        _ => false,
+    }
+}
+
 /// What a line says, as often as it says. Where the root has ended meanwhile, the rest is left out.
 pub fn do_times(trial: &mut Trial, step: Step<'_>, out: &mut Vec<u8>) -> Result<Outcome, Halt>
     ensures told { OnOk result (Tells trial.old trial.new out.old.items out.new.items) }
-    ensures often { OnOk result (DoesSome step.when trial.old trial.new out.old.items out.new.items) }
+    ensures often { IfOk result (λ outcome. TellsTimes step.when step.times outcome.taken trial.old trial.new out.old.items out.new.items) }
 {
     do_each(trial, step, out)
 }
 
 /// What a line says, time for time.
 fn do_each(trial: &mut Trial, step: Step<'_>, out: &mut Vec<u8>) -> Result<Outcome, Halt>
-    ensures { OnOk result (DoesSome step.when trial.old trial.new out.old.items out.new.items) }
+    ensures { IfOk result (λ outcome. TellsTimes step.when step.times outcome.taken trial.old trial.new out.old.items out.new.items) }
 {
     let mut outcome = do_step(trial, step, out)?;
-    for _ in 1..step.times {
-        if outcome.taken != ActionEnd::Done || trial.has_ended() {
+    for _done in 1..step.times {
+        if !goes_on(outcome.taken, trial.has_ended()) {
             return Ok(outcome);
         }
         outcome = do_step(trial, step, out)?;

@@ -5,8 +5,7 @@ ghost use Rattle.otp_reason.specs.declared.note.Note.TheVariants as note;
 ghost use Rattle.otp_rules.specs.declared.event.Item.TheVariants as item;
 ghost use Rattle.otp_rules.specs.declared.event.Kind.TheVariants as kind;
 ghost use Rattle.otp_spec.specs.declared.limits.TheConstants.{MAX_READING};
-ghost use Rattle.otp_trial.specs.Played.{ActsAt, Begins, EndsAt, EndsProcessAt, ExpectsAt, IsPlanted, PlansAt, Seated, Stops, StopsFirst, Tells, TellsFirst, at_start, fresh, is_root_over};
-ghost use Rattle.otp_trial.specs.Clocks.{shown};
+ghost use Rattle.otp_trial.specs.Played.{ActsAt, Begins, EndsAt, EndsProcessAt, ExpectsAt, IsPlanted, PlansAt, Seated, Stops, StopsFirst, Tells, TellsFirst, at_start, fresh, is_root_over, now_of};
 ghost use Rattle.otp_trial.specs.Taken.{taken_text};
 ghost use Rattle.otp_trial.specs.declared.trial.ActionEnd.TheVariants.{Done};
 
@@ -312,7 +311,7 @@ impl Trial {
 
     /// What the clock shows, in milliseconds since the beginning.
     pub fn now(&self) -> u64
-        ensures value { result ≡ shown self.now.clock self.now.time }
+        ensures value { result ≡ now_of self.now }
         ensures limit { result ≤ MAX_READING }
     {
         self.clock.shown(self.time)

@@ -12,14 +12,14 @@ use Rattle.otp_remarks.specs.Summaries.{IsSummary}
 use Rattle.otp_remarks.specs.Sketched.{drawing}
 use Rattle.otp_try.specs.Page.Remark.{Picture, Status, Summary}
 use Rattle.otp_try.specs.Pages.{AddsTo, Closing, Concluded, Ended, IsHalt, IsWhole, Played, Ran, StopsSo, SumsUp, Unopened, WritesOut, Wrote, WrotePart, end_of}
-use Rattle.otp_trial.specs.Played.{IsPlanted, Seated, Stand, TellsFirst, at_start}
+use Rattle.otp_trial.specs.Played.{IsPlanted, Seated, Stand, TellsFirst, at_start, now_of}
 use Rattle.otp_trial.specs.declared.clock.Clock.{Clock}
 use Rattle.otp_remarks.specs.Prompt.{standings_text}
 use Rattle.otp_try.specs.declared.early.EarlyEnd.{EarlyEnd}
 use Rattle.otp_try.specs.declared.early.EarlyEnd.TheVariants.{LineRefused, LineMissed, HistoryFull, InputFailed, OutputFailed, OutOfMemory}
 use Rattle.otp_try.specs.declared.play.TryEnd.{TryEnd}
 use Rattle.otp_try.specs.declared.play.TryEnd.TheVariants as try
-use Rattle.otp_try.proofs.Pieces.{adds-then, adds_nothing, adds_remark, adds_sheet, leads-append, still, text-append}
+use Rattle.otp_try.proofs.Pieces.{adds-then, adds_nothing, adds_remark, adds_sheet, leads-append, text-append}
 
 -- ---- the page
 
@@ -30,20 +30,20 @@ adds_to-then (Ok _) a b c x y z first second = adds-then a b c x y z first secon
 adds_to-then (Err _) a b c x y z first (stood, second) = (stood, adds-then a b stood x y z first second)
 
 -- a remark was written down
-pub some_remark : {T E : Type 0} (r : Result T E) (seats : List Seated) (x y text : List ℕ) (said : Remark) → text ≡ remark_text said seats → OnOk r (y ≡ x ++ text)
-    → OnOk r ((remark : Remark) × (y ≡ x ++ remark_text remark seats))
-some_remark (Ok _) seats x y text said is put = (said, put ∙ ap (λ (t : List ℕ). x ++ t) is)
-some_remark (Err _) seats x y text said is put = tt
+pub some_remark : {T E : Type 0} (r : Result T E) (a : Stand) (x y text : List ℕ) (said : Remark) → text ≡ remark_text said a → OnOk r (y ≡ x ++ text)
+    → OnOk r ((remark : Remark) × (y ≡ x ++ remark_text remark a))
+some_remark (Ok _) a x y text said is put = (said, put ∙ ap (λ (t : List ℕ). x ++ t) is)
+some_remark (Err _) a x y text said is put = tt
 
 -- how the supervisors stand is a remark
-pub status_remark : {T E : Type 0} (r : Result T E) (seats : List Seated) (x y : List ℕ)
-    → OnOk r ((now : ℕ) × (others : List Bool) × (y ≡ x ++ standings_text now seats (true ∷ others))) → OnOk r ((remark : Remark) × (y ≡ x ++ remark_text remark seats))
+pub status_remark : {T E : Type 0} (r : Result T E) (a : Stand) (x y : List ℕ)
+    → OnOk r ((others : List Bool) × (y ≡ x ++ standings_text (now_of a) a.seats (true ∷ others))) → OnOk r ((remark : Remark) × (y ≡ x ++ remark_text remark a))
 unfolding remark_text
-status_remark (Ok _) seats x y (now, others, put) = (Status now (true ∷ others), put)
-status_remark (Err _) seats x y put = tt
+status_remark (Ok _) a x y (others, put) = (Status (true ∷ others), put)
+status_remark (Err _) a x y put = tt
 
 -- a text was put on the page, or nothing
-pub puts_remark : {T E : Type 0} (r : Result T E) (a b : Stand) (x y text : List ℕ) (said : Remark) → b ≡ a → text ≡ remark_text said a.seats
+pub puts_remark : {T E : Type 0} (r : Result T E) (a b : Stand) (x y text : List ℕ) (said : Remark) → b ≡ a → text ≡ remark_text said a
     → OnOk r (y ≡ x ++ text) → OnErr r (y ≡ x) → AddsTo r a b x y
 puts_remark (Ok _) a b x y text said stands is ok err = adds_remark a b x y said stands (ok ∙ ap (λ (t : List ℕ). x ++ t) is)
 puts_remark (Err _) a b x y text said stands is ok err = (a, adds_nothing a a x y refl err)
@@ -109,7 +109,7 @@ pub wrote_page : (a b : Stand) (page text left : List ℕ) (before now : Option 
     → Wrote a b page left before now
 wrote_page a b page text left before now stands same appended empty = record {
   pieces = [];
-  lead = still a b stands;
+  lead = stands;
   written = text;
   appended = appended;
   text = ap (λ (t : List ℕ). text ++ t) empty ∙ ap (λ (t : List ℕ). t ++ []) same;
@@ -123,9 +123,9 @@ wrote-then a b c p q r x y z first second = record {
   appended = Appends-trans x y z first.written second.written first.appended second.appended;
   text = append_assoc first.written second.written r
       ∙ ap (λ (t : List ℕ). first.written ++ t) second.text
-      ∙ sym (append_assoc first.written q (pieces_text b.seats second.pieces))
-      ∙ ap (λ (t : List ℕ). t ++ pieces_text b.seats second.pieces) first.text
-      ∙ append_assoc p (pieces_text a.seats first.pieces) (pieces_text b.seats second.pieces)
+      ∙ sym (append_assoc first.written q (pieces_text b second.pieces))
+      ∙ ap (λ (t : List ℕ). t ++ pieces_text b second.pieces) first.text
+      ∙ append_assoc p (pieces_text a first.pieces) (pieces_text b second.pieces)
       ∙ ap (λ (t : List ℕ). p ++ t) (sym (text-append a b first.pieces second.pieces first.lead));
 }
 
@@ -151,7 +151,7 @@ pub part-then : (a b : Stand) (p q : List ℕ) (x y z : Option (List ℕ)) → W
 part-then a b p q x y z first second =
     let ps : List Piece = first.pieces in
     let qs : List Piece = second.pieces in
-    let more : List ℕ = pieces_text b.seats qs in
+    let more : List ℕ = pieces_text b qs in
     let front : List ℕ = second.part.front in
     record {
       pieces = ps ++ qs;
@@ -163,7 +163,7 @@ part-then a b p q x y z first second =
         begins = record {
           rest = second.part.begins.rest;
           same = ap (λ (t : List ℕ). p ++ t) (text-append a b ps qs first.lead)
-              ∙ sym (append_assoc p (pieces_text a.seats ps) more)
+              ∙ sym (append_assoc p (pieces_text a ps) more)
               ∙ ap (λ (t : List ℕ). t ++ more) (sym first.text)
               ∙ append_assoc first.written q more
               ∙ ap (λ (t : List ℕ). first.written ++ t) second.part.begins.same
@@ -245,7 +245,7 @@ pub concluded-then : (a b : Stand) (p q : List ℕ) (x y z : Option (List ℕ)) 
 concluded-then a b p q x y z first second =
     let ps : List Piece = first.pieces in
     let qs : List Piece = second.pieces in
-    let more : List ℕ = pieces_text b.seats qs in
+    let more : List ℕ = pieces_text b qs in
     record {
       pieces = ps ++ qs;
       stood = second.stood;
@@ -258,7 +258,7 @@ concluded-then a b p q x y z first second =
           ∙ sym (append_assoc first.written (q ++ more) second.summary)
           ∙ ap (λ (t : List ℕ). t ++ second.summary) (sym (append_assoc first.written q more)
           ∙ ap (λ (t : List ℕ). t ++ more) first.text
-          ∙ append_assoc p (pieces_text a.seats ps) more
+          ∙ append_assoc p (pieces_text a ps) more
           ∙ ap (λ (t : List ℕ). p ++ t) (sym (text-append a b ps qs first.lead)));
     }
 
@@ -297,14 +297,14 @@ still_ran r a b c p q s x y z first stands next =
 
 -- ---- the end of a run that was played to its end
 
-pub closing : (a : Stand) (x y summary : List ℕ) → IsSummary a.seats summary → y ≡ x ++ summary → Closing a x y
+pub closing : (a : Stand) (x y summary : List ℕ) → IsSummary a summary → y ≡ x ++ summary → Closing a x y
 closing a x y summary sums put = record { middle = x; adds = adds_nothing a a x x refl refl; summary = summary; sums = sums; text = put }
 
 -- a summary is a remark
-summary_adds : (a : Stand) (x y summary : List ℕ) → IsSummary a.seats summary → y ≡ x ++ summary → Adds a a x y
+summary_adds : (a : Stand) (x y summary : List ℕ) → IsSummary a summary → y ≡ x ++ summary → Adds a a x y
 unfolding remark_text
-summary_adds a x y summary (is_quiet, is_played, by, now, others, plans, hanging, is) put =
-    adds_remark a a x y (Summary is_quiet is_played by now (true ∷ others) plans hanging) refl (put ∙ ap (λ (t : List ℕ). x ++ t) is)
+summary_adds a x y summary (is_quiet, is_played, others, plans, hanging, is) put =
+    adds_remark a a x y (Summary is_quiet is_played (true ∷ others) plans hanging) refl (put ∙ ap (λ (t : List ℕ). x ++ t) is)
 
 pub closing_adds : (a : Stand) (x y : List ℕ) → Closing a x y → Adds a a x y
 closing_adds a x y closed =

@@ -28,14 +28,14 @@ pub record Wrote (old new : Stand) (page left : List ℕ) (before now : Option (
   pub lead : Leads old pieces new
   pub written : List ℕ
   pub appended : Appends before now written
-  pub text : written ++ left ≡ page ++ pieces_text old.seats pieces
+  pub text : written ++ left ≡ page ++ pieces_text old pieces
 
 -- of such a text a beginning is written, since the writer failed
 pub record WrotePart (old : Stand) (page : List ℕ) (before now : Option (List ℕ)) : Type 0 where
   pub pieces : List Piece
   pub stood : Stand
   pub lead : Leads old pieces stood
-  pub part : AppendsPart before now (page ++ pieces_text old.seats pieces)
+  pub part : AppendsPart before now (page ++ pieces_text old pieces)
 
 -- how far a run came that ended early
 abbrev pub StopsSo : EarlyEnd → Stand → List ℕ → List ℕ → Option (List ℕ) → Option (List ℕ) → Type 0
@@ -56,17 +56,17 @@ Ran (Ok _) old new page left before now = Wrote old new page left before now
 Ran (Err end) old new page left before now = StopsSo end old page left before now
 
 -- behind pieces without a move a summary was put on the page, of the supervisors as they stand
-pub record Closing (seats : Stand) (before after : List ℕ) : Type 0 where
+pub record Closing (stand : Stand) (before after : List ℕ) : Type 0 where
   pub middle : List ℕ
-  pub adds : Adds seats seats before middle
+  pub adds : Adds stand stand before middle
   pub summary : List ℕ
-  pub sums : IsSummary seats.seats summary
+  pub sums : IsSummary stand summary
   pub text : after ≡ middle ++ summary
 
 -- a run was summed up; or, where that went wrong, whole pieces were put on the page
 abbrev pub SumsUp : {T E : Type 0} → Result T E → Stand → List ℕ → List ℕ → Type 0
-SumsUp (Ok _) seats before after = Closing seats before after
-SumsUp (Err _) seats before after = (stood : Stand) × Adds seats stood before after
+SumsUp (Ok _) stand before after = Closing stand before after
+SumsUp (Err _) stand before after = (stood : Stand) × Adds stand stood before after
 
 -- so a run ends that was played to its end
 abbrev pub IsWhole : TryEnd → Type 0
@@ -91,10 +91,10 @@ pub record Concluded (old : Stand) (page : List ℕ) (before now : Option (List 
   pub stood : Stand
   pub lead : Leads old pieces stood
   pub summary : List ℕ
-  pub sums : IsSummary stood.seats summary
+  pub sums : IsSummary stood summary
   pub written : List ℕ
   pub appended : Appends before now written
-  pub text : written ≡ page ++ pieces_text old.seats pieces ++ summary
+  pub text : written ≡ page ++ pieces_text old pieces ++ summary
 
 -- a run from these supervisors on ended so, and nothing is left on the page: all its pieces were written, or the writer failed
 abbrev pub Ended : TryEnd → Stand → List ℕ → Option (List ℕ) → Option (List ℕ) → Type 0
@@ -108,12 +108,12 @@ Ended _ old page before now = (stood : Stand) × Wrote old stood page [] before 
 -- where all of a run was played, this text of it is left and so much was written, it ended so
 abbrev pub Concludes : TryEnd → Stand → List ℕ → Option (List ℕ) → Option (List ℕ) → Type 0
 Concludes end trial text between now =
-    (seats : Stand) (page : List ℕ) (before : Option (List ℕ)) → Wrote seats trial page text before between → Ended end seats page before now
+    (stand : Stand) (page : List ℕ) (before : Option (List ℕ)) → Wrote stand trial page text before between → Ended end stand page before now
 
 -- the same of a run that stopped early
 abbrev pub Closes : EarlyEnd → TryEnd → List ℕ → Option (List ℕ) → Option (List ℕ) → Type 0
 Closes why end text between now =
-    (seats : Stand) (page : List ℕ) (before : Option (List ℕ)) → StopsSo why seats page text before between → Ended end seats page before now
+    (stand : Stand) (page : List ℕ) (before : Option (List ℕ)) → StopsSo why stand page text before between → Ended end stand page before now
 
 -- whether all orders are told: where a script is drawn, or little is to be told, the ends of supervisors alone are
 abbrev pub tells_orders : Writer → Shows → Bool

@@ -41,7 +41,7 @@ fn write_fault(fault: ScriptFault, out: &mut Vec<u8>) -> Result<(), AllocError>
 impl Topic {
     /// Appends what is to be said of it where the trial stands so.
     fn write(self, trial: &Trial, out: &mut Vec<u8>) -> Result<(), AllocError>
-        ensures { OnOk result ((remark : Remark) × (out.new.items ≡ out.old.items ++ remark_text remark trial.now.seats)) }
+        ensures { OnOk result ((remark : Remark) × (out.new.items ≡ out.old.items ++ remark_text remark trial.now)) }
     {
         match self {
             Topic::Welcome => write_welcome(out),
@@ -62,7 +62,7 @@ impl Topic {
 
     /// What is to be said of it where the trial stands so.
     pub fn text(self, alloc: Global, trial: &Trial) -> Result<Vec<u8>, AllocError>
-        ensures { IfOk result (λ text. (remark : Remark) × (text.items ≡ remark_text remark trial.now.seats)) }
+        ensures { IfOk result (λ text. (remark : Remark) × (text.items ≡ remark_text remark trial.now)) }
     {
         let mut text = Vec::new(alloc);
         self.write(trial, &mut text)?;
