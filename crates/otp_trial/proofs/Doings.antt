@@ -1,5 +1,6 @@
 -- What is told of a line that is done so often.
-use Rattle.std.proofs.Common.{◌≡◌, ◌≤◌, ◌∙◌, ℕ, Bool, true, List, [], ◌++◌, Option, None, Some, Result, Ok, Err, OnOk, IfOk, ap, append_assoc, append-nil, arith, max, refl, subst, sym}
+use Rattle.std.proofs.Common.{◌≡◌, ◌≤◌, ◌+◌, ◌∙◌, ℕ, Bool, true, false, List, [], ◌++◌, Option, None, Some, Result, Ok, Err, OnOk, IfOk, ap, append_assoc, append-nil, arith, max, refl, subst, sym}
+use Rattle.std.proofs.lemmas.Bool.{false≢true}
 use Prim.Native.Nat.{zero, suc}
 use Rattle.otp_script.specs.declared.step.When.{When}
 use Rattle.otp_trial.specs.Played.{Makes, Move, Stand, Tells, is_root_over, story}
@@ -57,11 +58,12 @@ often_first when a b x y (ms, now, told) = (ms, (a, ([], (ms, ((refl, refl), (no
 -- once more
 pub often_more : (when : When) (n : ℕ) (a b c : Stand) (x y z : List ℕ) → TellsOften when n a b x y → TellsWhen (time_at b.time when) b c y z
     → TellsOften when (n + 1) a c x z
-often_more when n a b c x y z (ms, often, told) (more, now, told_more) = (
-  ms ++ more,
-  subst (λ (k : ℕ). DoesOften when k a (ms ++ more) c) (omega arith) (b, (ms, (more, (often, (now, refl))))),
-  told_both x y z ms more told told_more,
-)
+often_more when n a b c x y z (ms, often, told) (more, now, told_more) =
+    let next : suc n ≡ n + 1 = omega arith in (
+      ms ++ more,
+      subst (λ (k : ℕ). DoesOften when k a (ms ++ more) c) next (b, (ms, (more, (often, (now, refl))))),
+      told_both x y z ms more told told_more,
+    )
 
 -- so often as it says
 pub times_all : (when : When) (times n : ℕ) (end : ActionEnd) (a b : Stand) (x y : List ℕ) → TellsOften when n a b x y → n ≡ max 1 times → 1 ≤ n
@@ -79,10 +81,10 @@ times_all when times n end a b x y (ms, often, told) is once = (
   told,
 )
 
--- or less often
-pub times_some : (when : When) (times n : ℕ) (end : ActionEnd) (a b : Stand) (x y : List ℕ) → TellsOften when n a b x y → 1 ≤ n → n ≤ max 1 times
-    → (goes_on end (is_root_over b.seats) ≡ true → n ≡ max 1 times) → TellsTimes when times end a b x y
-times_some when times n end a b x y (ms, often, told) once most all = (
+-- or less often, since it isn't done again
+pub times_some : (when : When) (times n : ℕ) (end : ActionEnd) (a b : Stand) (x y : List ℕ) (has_ended again : Bool) → TellsOften when n a b x y → 1 ≤ n
+    → n ≤ max 1 times → has_ended ≡ is_root_over b.seats → again ≡ goes_on end has_ended → again ≡ false → TellsTimes when times end a b x y
+times_some when times n end a b x y has_ended again (ms, often, told) once most ended is stops = (
   ms,
   record {
     makes = does_often-makes when n a ms b often;
@@ -90,7 +92,7 @@ times_some when times n end a b x y (ms, often, told) once most all = (
     does = often;
     once = once;
     most = most;
-    all = all;
+    all = λ h. absurd (false≢true (sym stops ∙ is ∙ ap (λ (e : Bool). goes_on end e) ended ∙ h));
   },
   told,
 )

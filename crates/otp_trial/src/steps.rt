@@ -160,7 +160,7 @@ fn do_at(trial: &mut Trial, time: u64, step: Step<'_>, out: &mut Vec<u8>) -> Res
 
 /// What a line says: the clock goes on, and then it is done, unless its time has gone by.
 fn do_step(trial: &mut Trial, step: Step<'_>, out: &mut Vec<u8>) -> Result<Outcome, Halt>
-    ensures { OnOk result (TellsWhen (time_at trial.old.time step.when) trial.old trial.new out.old.items out.new.items) }
+    ensures { OnOk result (TellsWhen (time_at trial.old.time step.entry.when) trial.old trial.new out.old.items out.new.items) }
 {
     match time_at(trial.time(), step.when) {
         None => Ok(Outcome {
@@ -185,17 +185,17 @@ fn goes_on(taken: ActionEnd, has_ended: bool) -> bool
 /// What a line says, as often as it says. Where the root has ended meanwhile, the rest is left out.
 pub fn do_times(trial: &mut Trial, step: Step<'_>, out: &mut Vec<u8>) -> Result<Outcome, Halt>
     ensures told { OnOk result (Tells trial.old trial.new out.old.items out.new.items) }
-    ensures often { IfOk result (λ outcome. TellsTimes step.when step.times outcome.taken trial.old trial.new out.old.items out.new.items) }
+    ensures often { IfOk result (λ outcome. TellsTimes step.entry.when step.entry.times outcome.taken trial.old trial.new out.old.items out.new.items) }
 {
     do_each(trial, step, out)
 }
 
 /// What a line says, time for time.
 fn do_each(trial: &mut Trial, step: Step<'_>, out: &mut Vec<u8>) -> Result<Outcome, Halt>
-    ensures { IfOk result (λ outcome. TellsTimes step.when step.times outcome.taken trial.old trial.new out.old.items out.new.items) }
+    ensures { IfOk result (λ outcome. TellsTimes step.entry.when step.entry.times outcome.taken trial.old trial.new out.old.items out.new.items) }
 {
     let mut outcome = do_step(trial, step, out)?;
-    for _done in 1..step.times {
+    for done in 1..step.times {
         if !goes_on(outcome.taken, trial.has_ended()) {
             return Ok(outcome);
         }

@@ -158,7 +158,7 @@ impl Trial {
     ) -> Result<Self, Halt>
         ensures opened { IfOk result (λ trial. (before : List Seated) × IsPlanted tells tree.now before × Tells (at_start clock before) trial out.old.items out.new.items × Begins 0 (kind.Opened 0) (at_start clock before) trial) }
         ensures told { IfOk result (λ trial. (before : List Seated) × IsPlanted tells tree.now before × TellsFirst 0 (kind.Opened 0) (at_start clock before) trial out.old.items out.new.items) }
-        ensures time { IfOk result (λ trial. (trial.time ≡ 0) × (trial.clock ≡ clock)) }
+        ensures time { IfOk result (λ trial. trial.time ≡ 0) }
     {
         let plants = plant(alloc, tree, tells)?;
         if plants.seats.is_empty() {
