@@ -32,6 +32,7 @@ fn note(
     outcome: Outcome,
 ) -> Result<Played, AllocError>
     ensures told { IfOk result (λ one. one.told.items ≡ told.items) }
+    ensures came { IfOk result (λ one. one.outcome ≡ outcome) }
     ensures stands { IfOk result (λ one. StandsSo one trial.now) }
 {
     let moment = moment_at(alloc, trial, number)?;

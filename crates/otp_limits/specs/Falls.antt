@@ -14,7 +14,8 @@ use Rattle.otp_rules.specs.declared.work.Phase.{Phase}
 use Rattle.otp_rules.specs.declared.work.Phase.TheVariants.{Ended}
 use Rattle.otp_rules.specs.State.{is_over}
 use Rattle.otp_spec.specs.Flags.{is_simple}
-use Rattle.otp_trial.specs.Played.{Begins, IsPlanted, Seated, is_root_over, state_in}
+use Rattle.otp_trial.specs.Played.{Begins, IsPlanted, Seated, Stand, at_start, is_root_over, state_in}
+use Rattle.otp_trial.specs.declared.clock.Clock.TheVariants.{Milliseconds}
 use Rattle.otp_limits.specs.declared.fall.TheConstants.{MOST_FALLS}
 use Rattle.otp_limits.specs.declared.fate.Fate.{Fate}
 use Rattle.otp_limits.specs.declared.fate.Fate.TheVariants as fate
@@ -31,39 +32,42 @@ is_joined None = false
 is_joined (Some seat) = is_simple seat.base.flags.strategy && not (is_over (state_in seat).phase)
 
 -- somebody starts a child of the supervisor at this place, where it is one of simple_one_for_one
-unfoldable pub Joins : Bool → ℕ → List Seated → List Seated → Type 0
+unfoldable pub Joins : Bool → ℕ → Stand → Stand → Type 0
 Joins false place old new = new ≡ old
 Joins true place old new = (number : ℕ) × Begins place (kind.Took (item.Call number call.StartDynamic)) old new
 
--- a tree whose root was opened, with all that followed, and a supervisor of it that has a child
-pub record OpensTree (tree : Tree) (place : ℕ) (new : List Seated) : Type 0 where
+-- a tree whose root was opened, with all that followed, and a supervisor of it that has a child: all of it at no time
+pub record OpensTree (tree : Tree) (place : ℕ) (new : Stand) : Type 0 where
   pub planted : List Seated
   pub is_planted : IsPlanted false tree planted
-  pub opened : List Seated
-  pub opens : Begins 0 (kind.Opened 0) planted opened
-  pub joins : Joins (is_joined (slice_get opened place)) place opened new
+  pub opened : Stand
+  pub opens : Begins 0 (kind.Opened 0) (at_start Milliseconds planted) opened
+  pub joins : Joins (is_joined (slice_get opened.seats place)) place opened new
+  pub time : new.time ≡ 0
 
--- the process of this child of the supervisor at this place is killed: that comes first, and then what follows from it
-pub record FallsOnce (place : ℕ) (id : Name) (old new : List Seated) : Type 0 where
+-- the process of this child of the supervisor at this place is killed: that comes first, and then what follows from it, all of it at
+-- the same time
+pub record FallsOnce (place : ℕ) (id : Name) (old new : Stand) : Type 0 where
   pub process : ℕ
-  pub runs : process_at id (slice_get old place) ≡ Some process
+  pub runs : process_at id (slice_get old.seats place) ≡ Some process
   pub ends : Begins place (kind.Took (item.Note (note.Exit process reason.Killed))) old new
+  pub time : new.time ≡ old.time
 
 -- so many crashes of this child, one after the other, with no time between them
-unfoldable pub FallsOften : ℕ → Name → ℕ → List Seated → List Seated → Type 0
+unfoldable pub FallsOften : ℕ → Name → ℕ → Stand → Stand → Type 0
 FallsOften place id zero old new = new ≡ old
-FallsOften place id (suc n) old new = (before : List Seated) × (FallsOften place id n old before × FallsOnce place id before new)
+FallsOften place id (suc n) old new = (before : Stand) × (FallsOften place id n old before × FallsOnce place id before new)
 
 -- the root runs after so many crashes
-abbrev pub StandsAfter : ℕ → Name → ℕ → List Seated → List Seated → Type 0
-StandsAfter place id n old new = FallsOften place id n old new × (is_root_over new ≡ false)
+abbrev pub StandsAfter : ℕ → Name → ℕ → Stand → Stand → Type 0
+StandsAfter place id n old new = FallsOften place id n old new × (is_root_over new.seats ≡ false)
 
 -- how the root of an opened tree fares where this child crashes so, at no time
-unfoldable pub FallsSo : ℕ → Name → List Seated → Fate → List Seated → Type 0
+unfoldable pub FallsSo : ℕ → Name → Stand → Fate → Stand → Type 0
 FallsSo place id old fate.Survived new = StandsAfter place id MOST_FALLS old new
 FallsSo place id old (fate.Ended n) new =
-    (last : List Seated) × (StandsAfter place id n old last × (FallsOnce place id last new × (is_root_over new ≡ true)))
-FallsSo place id old (fate.Gone n) new = StandsAfter place id n old new × (process_at id (slice_get new place) ≡ None)
+    (last : Stand) × (StandsAfter place id n old last × (FallsOnce place id last new × (is_root_over new.seats ≡ true)))
+FallsSo place id old (fate.Gone n) new = StandsAfter place id n old new × (process_at id (slice_get new.seats place) ≡ None)
 
 -- a supervisor has ended though nobody asked it to
 unfoldable pub gave_up_by : Ending → Bool
@@ -89,15 +93,15 @@ given_up [] = []
 given_up (seat ∷ seats) = given_up seats ++ path_if (gave_up (state_in seat).phase) seat.path
 
 -- this child crashed until the root had ended, or so often: the root fared so, and these have given up
-pub record FallsFrom (place : ℕ) (id : Name) (opened : List Seated) (root : Fate) (ends : List (List ℕ)) : Type 0 where
-  pub after : List Seated
+pub record FallsFrom (place : ℕ) (id : Name) (opened : Stand) (root : Fate) (ends : List (List ℕ)) : Type 0 where
+  pub after : Stand
   pub falls : FallsSo place id opened root after
-  pub ended : ends ≡ given_up after
+  pub ended : ends ≡ given_up after.seats
 
 -- the same of a tree that was opened
 pub record IsFall (tree : Tree) (place : ℕ) (id : Name) (root : Fate) (ends : List (List ℕ)) : Type 0 where
-  pub opened : List Seated
+  pub opened : Stand
   pub opens : OpensTree tree place opened
-  pub after : List Seated
+  pub after : Stand
   pub falls : FallsSo place id opened root after
-  pub ended : ends ≡ given_up after
+  pub ended : ends ≡ given_up after.seats

@@ -54,8 +54,9 @@ fn is_joined(seats: &[Seat], place: usize) -> bool
 /// Somebody starts a child of the supervisor at this place, where it is one of simple_one_for_one that runs.
 #[tactic(auto, unfolding(crate::specs::Falls::Joins, otp_trial::specs::Played::Acts))]
 fn join(trial: &mut Trial, place: usize, page: &mut Vec<u8>) -> Result<(), Halt>
-    requires { place < length trial.old }
-    ensures { OnOk result (Joins (is_joined (slice_get trial.old place)) place trial.old trial.new) }
+    requires { place < length trial.old.seats }
+    ensures joins { OnOk result (Joins (is_joined (slice_get trial.old.seats place)) place trial.old trial.new) }
+    ensures time { OnOk result (trial.new.time ≡ trial.old.time) }
 {
     if is_joined(trial.seats(), place) {
         trial.act(place, Action::Call(Call::StartDynamic), page)?;
@@ -65,7 +66,8 @@ fn join(trial: &mut Trial, place: usize, page: &mut Vec<u8>) -> Result<(), Halt>
 
 /// The same, where there is such a supervisor.
 fn join_at(trial: &mut Trial, place: usize, page: &mut Vec<u8>) -> Result<(), Halt>
-    ensures { OnOk result (Joins (is_joined (slice_get trial.old place)) place trial.old trial.new) }
+    ensures joins { OnOk result (Joins (is_joined (slice_get trial.old.seats place)) place trial.old trial.new) }
+    ensures time { OnOk result (trial.new.time ≡ trial.old.time) }
 {
     if place >= trial.seats().len() {
         return Err(Halt::OutOfMemory);
@@ -90,7 +92,7 @@ fn open(alloc: Global, tree: &TreeSpec, place: usize, page: &mut Vec<u8>) -> Res
 /// A child of the supervisor at this place crashes until the root has ended, or so often as is played.
 #[tactic(auto, unfolding(crate::specs::Falls::FallsSo))]
 fn crash_often(trial: &mut Trial, place: usize, id: &Name, page: &mut Vec<u8>) -> Result<Fate, Halt>
-    requires runs { is_root_over trial.old ≡ false }
+    requires runs { is_root_over trial.old.seats ≡ false }
     ensures { IfOk result (λ fate. FallsSo place id.now trial.old fate trial.new) }
 {
     for count in 0..MOST_FALLS {

@@ -1,7 +1,7 @@
 -- What stands at the end of a run, put together.
 use Rattle.std.specs.Prelude.{◌≡◌, ℕ, Bool, true, List, ◌∷◌, ◌++◌, Result, Ok, Err, OnOk}
 use Rattle.std.proofs.Common.{◌∙◌, ap}
-use Rattle.otp_trial.specs.Played.{Seated}
+use Rattle.otp_trial.specs.Played.{Seated, Stand, now_of}
 use Rattle.otp_trial.specs.declared.clock.Clock.{Clock}
 use Rattle.otp_world.specs.declared.plans.Hang.{Hang}
 use Rattle.otp_world.specs.declared.plans.Plan.{Plan}
@@ -9,32 +9,31 @@ use Rattle.otp_remarks.specs.Summaries.{IsSummary, summary_text}
 use Rattle.otp_remarks.specs.Verdict.{whole_verdict}
 
 -- the supervisors of a trial were summed up
-pub summed : (is_quiet is_played : Bool) (by : Clock) (now : ℕ) (seats shown : List Seated) (running read others : List Bool) (plans : List Plan) (hanging : List Hang) (lines : List ℕ)
-    → shown ≡ seats → running ≡ true ∷ others → read ≡ running → lines ≡ summary_text is_quiet is_played by now shown read plans hanging → IsSummary seats lines
-summed is_quiet is_played by now seats shown running read others plans hanging lines same are is put = (
+pub summed : (is_quiet is_played : Bool) (stand : Stand) (by : Clock) (now : ℕ) (shown : List Seated) (running read others : List Bool) (plans : List Plan) (hanging : List Hang) (lines : List ℕ)
+    → by ≡ stand.clock → now ≡ now_of stand → shown ≡ stand.seats → running ≡ true ∷ others → read ≡ running
+    → lines ≡ summary_text is_quiet is_played by now shown read plans hanging → IsSummary stand lines
+summed is_quiet is_played stand by now shown running read others plans hanging lines clock at same are is put = (
   is_quiet,
   is_played,
-  by,
-  now,
   others,
   plans,
   hanging,
   put
-      ∙ ap (λ (s : List Seated). summary_text is_quiet is_played by now s read plans hanging) same
-      ∙ ap (λ (rs : List Bool). summary_text is_quiet is_played by now seats rs plans hanging) (is ∙ are),
+      ∙ ap (λ (c : Clock). summary_text is_quiet is_played c now shown read plans hanging) clock
+      ∙ ap (λ (t : ℕ). summary_text is_quiet is_played stand.clock t shown read plans hanging) at
+      ∙ ap (λ (s : List Seated). summary_text is_quiet is_played stand.clock (now_of stand) s read plans hanging) same
+      ∙ ap (λ (rs : List Bool). summary_text is_quiet is_played stand.clock (now_of stand) stand.seats rs plans hanging) (is ∙ are),
 )
 
 -- the verdict was written down
-pub some_verdict : {T E : Type 0} (r : Result T E) (is_played : Bool) (by : Clock) (seats shown : List Seated) (running read others : List Bool) (x z : List ℕ)
-    → shown ≡ seats → running ≡ true ∷ others → read ≡ running → OnOk r (z ≡ x ++ whole_verdict is_played by shown read)
-    → OnOk r ((by : Clock) × ((others : List Bool) × (z ≡ x ++ whole_verdict is_played by seats (true ∷ others))))
-some_verdict (Ok _) is_played by seats shown running read others x z same are is put = (
-  by,
-  (
-    others,
-    put
-        ∙ ap (λ (s : List Seated). x ++ whole_verdict is_played by s read) same
-        ∙ ap (λ (rs : List Bool). x ++ whole_verdict is_played by seats rs) (is ∙ are),
-  ),
+pub some_verdict : {T E : Type 0} (r : Result T E) (is_played : Bool) (stand : Stand) (by : Clock) (shown : List Seated) (running read others : List Bool) (x z : List ℕ)
+    → by ≡ stand.clock → shown ≡ stand.seats → running ≡ true ∷ others → read ≡ running → OnOk r (z ≡ x ++ whole_verdict is_played by shown read)
+    → OnOk r ((others : List Bool) × (z ≡ x ++ whole_verdict is_played stand.clock stand.seats (true ∷ others)))
+some_verdict (Ok _) is_played stand by shown running read others x z clock same are is put = (
+  others,
+  put
+      ∙ ap (λ (c : Clock). x ++ whole_verdict is_played c shown read) clock
+      ∙ ap (λ (s : List Seated). x ++ whole_verdict is_played stand.clock s read) same
+      ∙ ap (λ (rs : List Bool). x ++ whole_verdict is_played stand.clock stand.seats rs) (is ∙ are),
 )
-some_verdict (Err _) is_played by seats shown running read others x z same are is put = tt
+some_verdict (Err _) is_played stand by shown running read others x z clock same are is put = tt

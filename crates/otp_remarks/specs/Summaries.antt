@@ -1,6 +1,6 @@
 -- What stands at the end of a run (own).
 use Rattle.std.specs.Prelude.{◌≡◌, ℕ, Bool, true, false, List, [], ◌∷◌, ◌++◌}
-use Rattle.otp_trial.specs.Played.{Seated}
+use Rattle.otp_trial.specs.Played.{Seated, Stand, now_of}
 use Rattle.otp_trial.specs.declared.clock.Clock.{Clock}
 use Rattle.otp_world.specs.declared.plans.Hang.{Hang}
 use Rattle.otp_world.specs.declared.plans.Plan.{Plan}
@@ -23,8 +23,8 @@ unfoldable pub summary_text : Bool → Bool → Clock → ℕ → List Seated �
 summary_text is_quiet is_played by now seats running plans hanging =
     front_text is_quiet now seats running plans hanging ++ whole_verdict is_played by seats running
 
--- a text says so of these supervisors, of which the root has a process
-abbrev pub IsSummary : List Seated → List ℕ → Type 0
-IsSummary seats text =
-    (is_quiet : Bool) × (is_played : Bool) × (by : Clock) × (now : ℕ) × (others : List Bool) × (plans : List Plan) × (hanging : List Hang)
-    × (text ≡ summary_text is_quiet is_played by now seats (true ∷ others) plans hanging)
+-- a text says so of a run that stands so, by its clock and at what that shows; the root has a process
+abbrev pub IsSummary : Stand → List ℕ → Type 0
+IsSummary stand text =
+    (is_quiet : Bool) × (is_played : Bool) × (others : List Bool) × (plans : List Plan) × (hanging : List Hang)
+    × (text ≡ summary_text is_quiet is_played stand.clock (now_of stand) stand.seats (true ∷ others) plans hanging)

@@ -1,8 +1,9 @@
 //! A run as a picture.
 
-ghost use Rattle.std.specs.Prelude.{ℕ, Bool, true, List, ◌≡◌, ◌++◌, ◌∷◌, [], IfOk, OnOk, length};
+ghost use Rattle.std.specs.Prelude.{Bool, true, List, ◌≡◌, ◌++◌, ◌∷◌, [], IfOk, OnOk, length};
 ghost use Rattle.otp_remarks.specs.Sketched.{drawing};
 ghost use Rattle.otp_remarks.specs.Sketched.{moment_of, picture, standing_in, standings_in, supervisors_text};
+ghost use Rattle.otp_trial.specs.Played.{now_of};
 
 use otp_timeline::{
     Look, Moment, Standing, Standings, moments_in, no_standing, standing_of, write_heads,
@@ -74,7 +75,7 @@ pub fn moment_of(
 
 /// How the supervisors of a trial stand, once this line of the script was played.
 pub fn moment_at(alloc: Global, trial: &Trial, line: u64) -> Result<Moment, AllocError>
-    ensures { IfOk result (λ moment. (time : ℕ) × ((others : List Bool) × (moment ≡ moment_of line time trial.now (true ∷ others)))) }
+    ensures { IfOk result (λ moment. (others : List Bool) × (moment ≡ moment_of line (now_of trial.now) trial.now.seats (true ∷ others))) }
 {
     let running = trial.running()?;
     moment_of(alloc, line, trial.now(), trial.seats(), running.as_slice())

@@ -1,10 +1,10 @@
 //! What stands at the end of a run.
 
-ghost use Rattle.std.specs.Prelude.{ℕ, Bool, true, List, ◌∷◌, ◌≡◌, ◌++◌, IfOk, OnOk, length};
+ghost use Rattle.std.specs.Prelude.{Bool, true, List, ◌∷◌, ◌≡◌, ◌++◌, IfOk, OnOk, length};
 ghost use Rattle.otp_remarks.specs.Prompt.{standings_text};
 ghost use Rattle.otp_remarks.specs.Summaries.{IsSummary, front_text, stand_text, summary_text};
 ghost use Rattle.otp_remarks.specs.Verdict.{whole_verdict};
-ghost use Rattle.otp_trial.specs.declared.clock.Clock.{Clock};
+ghost use Rattle.otp_trial.specs.Played.{now_of};
 
 use crate::fit::fit;
 use crate::prompt::write_standings;
@@ -28,7 +28,7 @@ struct Close<'a> {
 
 /// Appends how the supervisors stand, and what they await.
 pub fn write_all_standings(trial: &Trial, out: &mut Vec<u8>) -> Result<(), AllocError>
-    ensures { OnOk result ((now : ℕ) × (others : List Bool) × (out.new.items ≡ out.old.items ++ standings_text now trial.now (true ∷ others))) }
+    ensures { OnOk result ((others : List Bool) × (out.new.items ≡ out.old.items ++ standings_text (now_of trial.now) trial.now.seats (true ∷ others))) }
 {
     let now = trial.now();
     let running = trial.running()?;
@@ -112,7 +112,7 @@ pub fn write_trial_verdict(
     is_played: bool,
     out: &mut Vec<u8>,
 ) -> Result<(), AllocError>
-    ensures { OnOk result ((by : Clock) × ((others : List Bool) × (out.new.items ≡ out.old.items ++ whole_verdict is_played by trial.now (true ∷ others)))) }
+    ensures { OnOk result ((others : List Bool) × (out.new.items ≡ out.old.items ++ whole_verdict is_played trial.now.clock trial.now.seats (true ∷ others))) }
 {
     let running = trial.running()?;
     write_verdict(

@@ -1,3 +1,4 @@
+mod Doings
 pub mod Tellings
 pub mod Pathings
 pub mod Plantings

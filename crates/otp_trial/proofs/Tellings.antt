@@ -1,13 +1,15 @@
 -- What is told of moves that are made one after another.
-use Rattle.std.specs.Prelude.{◌≡◌, ℕ, List, [], ◌∷◌, ◌++◌, Some, None, refl, slice_set}
-use Rattle.std.proofs.Common.{◌∙◌, ap, sym, subst, append_assoc, append-nil}
+use Rattle.std.specs.Prelude.{◌≡◌, ◌≤◌, ℕ, List, [], ◌∷◌, ◌++◌, Some, None, refl, slice_set}
+use Rattle.std.proofs.Common.{◌∙◌, ap, arith, sym, subst, append_assoc, append-nil}
 use Rattle.otp_rules.specs.declared.event.Effect.{Effect}
 use Rattle.otp_rules.specs.declared.event.Event.{Event}
 use Rattle.otp_rules.specs.declared.event.Kind.{Kind}
 use Rattle.otp_rules.specs.Run.{state_after}
 use Rattle.otp_rules.specs.State.{State}
 use Rattle.otp_rules.specs.Step.{step}
-use Rattle.otp_trial.specs.Played.{Begins, Happens, IsAt, Lead, Move, Seated, Tells, TellsFirst, move_text, seat_after, starts_of, state_in, story}
+use Rattle.otp_trial.specs.Clocks.{shown}
+use Rattle.otp_trial.specs.Played.{ArePassed, Begins, Happens, IsAt, Lead, Makes, Move, Seated, Stand, Tells, TellsFirst, move_text, seat_after, seat_with, starts_of, state_in, story}
+use Rattle.otp_trial.specs.declared.clock.Clock.{Clock}
 use Rattle.otp_telling.specs.Starts.{started_by, starts_in}
 use Rattle.otp_telling.specs.Story.{event_text}
 use Rattle.otp_telling.specs.declared.starts.Started.{Started}
@@ -38,73 +40,113 @@ lead-append : (a b c : List Seated) (xs ys : List Move) → Lead a xs b → Lead
 lead-append a b c [] ys first second = subst (λ (s : List Seated). Lead s ys c) first second
 lead-append a b c (x ∷ xs) ys (here, rest) second = (here, lead-append (slice_set a x.place (seat_after x)) b c xs ys rest second)
 
-story-append : (xs ys : List Move) → story (xs ++ ys) ≡ story xs ++ story ys
+-- moves that begin later were begun in time
+passed_before : (clock : Clock) (early from to : ℕ) (ms : List Move) → early ≤ from → ArePassed clock from ms to → ArePassed clock early ms to
+passed_before clock early from to [] less passed = omega (arith, less, passed)
+passed_before clock early from to (m ∷ ms) less (after, rest) = (omega (arith, less, after), rest)
+
+passed-append : (clock : Clock) (from mid to : ℕ) (xs ys : List Move) → ArePassed clock from xs mid → ArePassed clock mid ys to → ArePassed clock from (xs ++ ys) to
+passed-append clock from mid to [] ys first second = passed_before clock from mid to ys first second
+passed-append clock from mid to (x ∷ xs) ys (after, (read, rest)) second = (after, (read, passed-append clock x.time mid to xs ys rest second))
+
+pub makes-append : (a b c : Stand) (xs ys : List Move) → Makes a xs b → Makes b ys c → Makes a (xs ++ ys) c
+makes-append a b c xs ys first second = record {
+  lead = lead-append a.seats b.seats c.seats xs ys first.lead second.lead;
+  clock = second.clock ∙ first.clock;
+  passed = passed-append a.clock a.time b.time c.time xs ys first.passed
+      (subst (λ (clock : Clock). ArePassed clock b.time ys c.time) first.clock second.passed);
+}
+
+-- nothing happened
+pub makes_none : (a b : Stand) → b ≡ a → Makes a [] b
+makes_none a b same = subst (λ (s : Stand). Makes a [] s) (sym same) (record { lead = refl; clock = refl; passed = omega arith })
+
+pub story-append : (xs ys : List Move) → story (xs ++ ys) ≡ story xs ++ story ys
 story-append [] ys = refl
 story-append (x ∷ xs) ys =
     ap (λ (text : List ℕ). move_text x ++ text) (story-append xs ys) ∙ sym (append_assoc (move_text x) (story xs) (story ys))
 
 -- what was told first, and then what was told of the moves after it
-pub tells-then : (a b c : List Seated) (x y z : List ℕ) → Tells a b x y → Tells b c y z → Tells a c x z
+pub tells-then : (a b c : Stand) (x y z : List ℕ) → Tells a b x y → Tells b c y z → Tells a c x z
 tells-then a b c x y z (first, ab, told) (then, bc, told_then) = (
   first ++ then,
-  lead-append a b c first then ab bc,
+  makes-append a b c first then ab bc,
   told_then
       ∙ ap (λ (text : List ℕ). text ++ story then) told
       ∙ append_assoc x (story first) (story then)
       ∙ ap (λ (text : List ℕ). x ++ text) (sym (story-append first then)),
 )
 
+-- nothing happened, but the clock went on
+pub tells_later : (a b : Stand) (text : List ℕ) → b.seats ≡ a.seats → b.clock ≡ a.clock → a.time ≤ b.time → Tells a b text text
+tells_later a b text seats clock later = ([], record { lead = seats; clock = clock; passed = later }, sym (append-nil text))
+
 -- what began first began first, whatever came after it
-pub begins-then : (place : ℕ) (k : Kind) (a b c : List Seated) (y z : List ℕ) → Begins place k a b → Tells b c y z → Begins place k a c
+pub begins-then : (place : ℕ) (k : Kind) (a b c : Stand) (y z : List ℕ) → Begins place k a b → Tells b c y z → Begins place k a c
 begins-then place k a b c y z (seat, e, ms, ab, is) (more, bc, told) =
-    (seat, e, ms ++ more, lead-append a b c (record { place = place; seat = seat; event = Some e } ∷ ms) more ab bc, is)
+    (seat, e, ms ++ more, makes-append a b c (record { time = a.time; place = place; seat = seat; event = Some e } ∷ ms) more ab bc, is)
 
 -- a supervisor is there anew, and nothing is told of it
-pub tells-anew : (a b : List Seated) (place : ℕ) (old new : Seated) (text : List ℕ) → IsAt a place old → new ≡ record old { history = [] } → b ≡ slice_set a place new
-    → Tells a b text text
+pub tells-anew : (a b : Stand) (place : ℕ) (old new : Seated) (text : List ℕ) → IsAt a.seats place old → new ≡ record old { history = [] }
+    → b ≡ record a { seats = slice_set a.seats place new } → Tells a b text text
 unfolding move_text
-tells-anew a b place old new text here is set = (
-  record { place = place; seat = old; event = None } ∷ [],
-  (here, set ∙ ap (λ (seat : Seated). slice_set a place seat) is),
-  sym (append-nil text),
-)
+tells-anew a b place old new text here is set =
+    subst (λ (s : Stand). Tells a s text text) (sym set) (
+      record { time = a.time; place = place; seat = old; event = None } ∷ [],
+      record {
+        lead = (here, ap (λ (seat : Seated). slice_set a.seats place seat) is);
+        clock = refl;
+        passed = (omega arith, (tt, omega arith));
+      },
+      sym (append-nil text),
+    )
 
 -- an event happened to the supervisor at a place
-pub tells-event : (a b : List Seated) (place : ℕ) (k : Kind) (old new : Seated) (x y : List ℕ) → IsAt a place old → Happens k old new x y → b ≡ slice_set a place new
-    → Tells a b x y
-unfolding move_text
-tells-event a b place k old new x y here (e, kind, is, told) set = (
-  record { place = place; seat = old; event = Some e } ∷ [],
-  (here, set ∙ ap (λ (seat : Seated). slice_set a place seat) is),
-  told ∙ ap (λ (text : List ℕ). x ++ text) (sym (append-nil (event_text old.tells old.path (starts_of old) (state_in old) e))),
-)
+made : (a : Stand) (place : ℕ) (e : Event) (old new : Seated) → IsAt a.seats place old → e.reading ≡ shown a.clock a.time → new ≡ seat_with e old
+    → Makes a (record { time = a.time; place = place; seat = old; event = Some e } ∷ []) (record a { seats = slice_set a.seats place new })
+made a place e old new here read is = record {
+  lead = (here, ap (λ (seat : Seated). slice_set a.seats place seat) is);
+  clock = refl;
+  passed = (omega arith, (read, omega arith));
+}
 
-pub begins-event : (a b : List Seated) (place : ℕ) (k : Kind) (old new : Seated) (x y : List ℕ) → IsAt a place old → Happens k old new x y → b ≡ slice_set a place new
-    → Begins place k a b
-begins-event a b place k old new x y here (e, kind, is, told) set =
-    (old, e, [], (here, set ∙ ap (λ (seat : Seated). slice_set a place seat) is), kind)
+pub tells-event : (a b : Stand) (place : ℕ) (k : Kind) (old new : Seated) (x y : List ℕ) → IsAt a.seats place old
+    → Happens (shown a.clock a.time) k old new x y → b ≡ record a { seats = slice_set a.seats place new } → Tells a b x y
+unfolding move_text
+tells-event a b place k old new x y here (e, kind, read, is, told) set =
+    subst (λ (s : Stand). Tells a s x y) (sym set) (
+      record { time = a.time; place = place; seat = old; event = Some e } ∷ [],
+      made a place e old new here read is,
+      told ∙ ap (λ (text : List ℕ). x ++ text) (sym (append-nil (event_text old.tells old.path (starts_of old) (state_in old) e))),
+    )
+
+pub begins-event : (a b : Stand) (place : ℕ) (k : Kind) (old new : Seated) (x y : List ℕ) → IsAt a.seats place old
+    → Happens (shown a.clock a.time) k old new x y → b ≡ record a { seats = slice_set a.seats place new } → Begins place k a b
+begins-event a b place k old new x y here (e, kind, read, is, told) set =
+    subst (λ (s : Stand). Begins place k a s) (sym set) (old, e, [], made a place e old new here read is, kind)
 
 -- the same with what is told of it
-pub first-event : (a b : List Seated) (place : ℕ) (k : Kind) (old new : Seated) (x y : List ℕ) → IsAt a place old → Happens k old new x y → b ≡ slice_set a place new
-    → TellsFirst place k a b x y
+pub first-event : (a b : Stand) (place : ℕ) (k : Kind) (old new : Seated) (x y : List ℕ) → IsAt a.seats place old
+    → Happens (shown a.clock a.time) k old new x y → b ≡ record a { seats = slice_set a.seats place new } → TellsFirst place k a b x y
 unfolding move_text
-first-event a b place k old new x y here (e, kind, is, told) set = (
-  old,
-  e,
-  [],
-  (here, set ∙ ap (λ (seat : Seated). slice_set a place seat) is),
-  kind,
-  told ∙ ap (λ (text : List ℕ). x ++ text) (sym (append-nil (event_text old.tells old.path (starts_of old) (state_in old) e))),
-)
+first-event a b place k old new x y here (e, kind, read, is, told) set =
+    subst (λ (s : Stand). TellsFirst place k a s x y) (sym set) (
+      old,
+      e,
+      [],
+      made a place e old new here read is,
+      kind,
+      told ∙ ap (λ (text : List ℕ). x ++ text) (sym (append-nil (event_text old.tells old.path (starts_of old) (state_in old) e))),
+    )
 
 -- and what is told after it
-pub first-then : (place : ℕ) (k : Kind) (a b c : List Seated) (x y z : List ℕ) → TellsFirst place k a b x y → Tells b c y z → TellsFirst place k a c x z
+pub first-then : (place : ℕ) (k : Kind) (a b c : Stand) (x y z : List ℕ) → TellsFirst place k a b x y → Tells b c y z → TellsFirst place k a c x z
 first-then place k a b c x y z (seat, e, ms, ab, is, told) (more, bc, told_more) =
-    let m : Move = record { place = place; seat = seat; event = Some e } in (
+    let m : Move = record { time = a.time; place = place; seat = seat; event = Some e } in (
       seat,
       e,
       ms ++ more,
-      lead-append a b c (m ∷ ms) more ab bc,
+      makes-append a b c (m ∷ ms) more ab bc,
       is,
       told_more
           ∙ ap (λ (text : List ℕ). text ++ story more) told

@@ -1,5 +1,5 @@
 -- A tree that is tried: its supervisors, each with its events so far, and how calls of a trial add to them (own).
-use Rattle.std.specs.Prelude.{◌≡◌, ℕ, ◌<◌, ◌+◌, ◌==◌, Bool, true, false, not, List, [], ◌∷◌, ◌++◌, Option, Some, None, count_by, if◌then◌else◌, is_some, length, map, position, slice_index_or, slice_set}
+use Rattle.std.specs.Prelude.{◌≡◌, ℕ, ◌<◌, ◌≤◌, ◌+◌, ◌==◌, Bool, true, false, not, List, [], ◌∷◌, ◌++◌, Option, Some, None, count_by, if◌then◌else◌, is_some, length, map, position, slice_index_or, slice_set}
 use Rattle.std.specs.List.{flat_map, list_any}
 use Rattle.otp_file.specs.Trees.{Table, Tree, tables_of}
 use Rattle.otp_reason.specs.declared.name.Name.{Name}
@@ -29,6 +29,8 @@ use Rattle.otp_telling.specs.Strains.{strained_by, unstrained}
 use Rattle.otp_world.specs.Finding.{found_for, state_for}
 use Rattle.otp_world.specs.declared.finding.Found.{Found}
 use Rattle.otp_world.specs.declared.finding.Found.TheVariants as found
+use Rattle.otp_trial.specs.Clocks.{shown}
+use Rattle.otp_trial.specs.declared.clock.Clock.{Clock}
 use Rattle.otp_trial.specs.Paths.{paths_of}
 use Rattle.otp_trial.specs.declared.trial.ActionEnd.{ActionEnd}
 use Rattle.otp_trial.specs.declared.trial.ActionEnd.TheVariants as taken
@@ -69,13 +71,14 @@ strain_with e p = strained_by p.base.flags p.strain e.reading e.kind (step (stat
 abbrev pub seat_with : Event → Seated → Seated
 seat_with e p = record p { history = p.history ++ e ∷ []; strain = strain_with e p }
 
--- an event of this kind happened to a supervisor, and the text tells those of its orders that are told
-abbrev pub Happens : Kind → Seated → Seated → List ℕ → List ℕ → Type 0
-Happens k old new before after =
-    (e : Event) × (e.kind ≡ k) × (new ≡ seat_with e old) × (after ≡ before ++ event_text old.tells old.path (starts_of old) (state_in old) e)
+-- an event of this kind happened to a supervisor at this reading, and the text tells those of its orders that are told
+abbrev pub Happens : ℕ → Kind → Seated → Seated → List ℕ → List ℕ → Type 0
+Happens reading k old new before after =
+    (e : Event) × (e.kind ≡ k) × (e.reading ≡ reading) × (new ≡ seat_with e old) × (after ≡ before ++ event_text old.tells old.path (starts_of old) (state_in old) e)
 
--- what happens to the supervisor at a place, which stood so: an event, or it is there anew and was never opened
+-- what happens to the supervisor at a place, which stood so, and when: an event, or it is there anew and was never opened
 pub record Move : Type 0 where
+  pub time : ℕ
   pub place : ℕ
   pub seat : Seated
   pub event : Option Event
@@ -106,37 +109,67 @@ abbrev pub Lead : List Seated → List Move → List Seated → Type 0
 Lead seats [] after = after ≡ seats
 Lead seats (m ∷ ms) after = IsAt seats m.place m.seat × Lead (slice_set seats m.place (seat_after m)) ms after
 
+-- how a trial stands: its supervisors, by which clock it is played, and the time since the beginning, in milliseconds
+pub record Stand : Type 0 where
+  pub seats : List Seated
+  pub clock : Clock
+  pub time : ℕ
+
+-- what its clock shows
+abbrev pub now_of : Stand → ℕ
+now_of s = shown s.clock s.time
+
+-- one of these supervisors, before anything happens
+abbrev pub at_start : Clock → List Seated → Stand
+at_start clock seats = record { seats = seats; clock = clock; time = 0 }
+
+-- the reading of an event is what the clock shows at this time
+abbrev pub IsRead : Clock → ℕ → Option Event → Type 0
+IsRead clock time None = Unit {0}
+IsRead clock time (Some e) = e.reading ≡ shown clock time
+
+-- the moves are made one after the other from one time to another, and each event is read off the clock
+abbrev pub ArePassed : Clock → ℕ → List Move → ℕ → Type 0
+ArePassed clock from [] to = from ≤ to
+ArePassed clock from (m ∷ ms) to = (from ≤ m.time) × (IsRead clock m.time m.event × ArePassed clock m.time ms to)
+
+-- by these moves a trial stands so that stood so
+pub record Makes (old : Stand) (ms : List Move) (new : Stand) : Type 0 where
+  pub lead : Lead old.seats ms new.seats
+  pub clock : new.clock ≡ old.clock
+  pub passed : ArePassed old.clock old.time ms new.time
+
 -- the same of these moves, in order
 abbrev pub story : List Move → List ℕ
 story ms = flat_map move_text ms
 
 -- moves were made, and of them the text tells all orders of the supervisors that are told, and the ends of the others, in
 -- order, and nothing else
-abbrev pub Tells : List Seated → List Seated → List ℕ → List ℕ → Type 0
-Tells old new before after = (ms : List Move) × Lead old ms new × (after ≡ before ++ story ms)
+abbrev pub Tells : Stand → Stand → List ℕ → List ℕ → Type 0
+Tells old new before after = (ms : List Move) × Makes old ms new × (after ≡ before ++ story ms)
 
--- the first move is an event of this kind at this place
-abbrev pub Begins : ℕ → Kind → List Seated → List Seated → Type 0
+-- the first move is an event of this kind at this place, at once
+abbrev pub Begins : ℕ → Kind → Stand → Stand → Type 0
 Begins place k old new = (seat : Seated) × (e : Event) × (ms : List Move)
-    × Lead old (record { place = place; seat = seat; event = Some e } ∷ ms) new × (e.kind ≡ k)
+    × Makes old (record { time = old.time; place = place; seat = seat; event = Some e } ∷ ms) new × (e.kind ≡ k)
 
 -- and the text tells the orders of that event, and then of the moves after it
-abbrev pub TellsFirst : ℕ → Kind → List Seated → List Seated → List ℕ → List ℕ → Type 0
+abbrev pub TellsFirst : ℕ → Kind → Stand → Stand → List ℕ → List ℕ → Type 0
 TellsFirst place k old new before after = (seat : Seated) × (e : Event) × (ms : List Move)
-    × Lead old (record { place = place; seat = seat; event = Some e } ∷ ms) new × (e.kind ≡ k)
-    × (after ≡ before ++ story (record { place = place; seat = seat; event = Some e } ∷ ms))
+    × Makes old (record { time = old.time; place = place; seat = seat; event = Some e } ∷ ms) new × (e.kind ≡ k)
+    × (after ≡ before ++ story (record { time = old.time; place = place; seat = seat; event = Some e } ∷ ms))
 
 -- the end of this process was told, and waits until no work is open
 abbrev pub has_end_waiting : Seated → ℕ → Bool
 has_end_waiting seat p = is_some (position (is_exit p) (state_in seat).waiting)
 
 -- the end of this process is what happens first, unless it waits already; then nothing happens
-unfoldable pub EndsUnless : Bool → ℕ → ℕ → Reason → List Seated → ActionEnd → List Seated → Type 0
+unfoldable pub EndsUnless : Bool → ℕ → ℕ → Reason → Stand → ActionEnd → Stand → Type 0
 EndsUnless true place p r old answer new = (answer ≡ taken.EndWaits) × (new ≡ old)
 EndsUnless false place p r old answer new = (answer ≡ taken.Done) × Begins place (kind.Took (item.Note (note.Exit p r))) old new
 
 -- the end of that process is what happens first; or nothing happens, and the answer says why
-unfoldable pub Ends : ℕ → Reason → Seated → Found → List Seated → ActionEnd → List Seated → Type 0
+unfoldable pub Ends : ℕ → Reason → Seated → Found → Stand → ActionEnd → Stand → Type 0
 Ends place r seat (found.Process p) old answer new = EndsUnless (has_end_waiting seat p) place p r old answer new
 Ends place r seat found.NoProcess old answer new = (answer ≡ taken.NoProcess) × (new ≡ old)
 Ends place r seat found.NoChild old answer new = (answer ≡ taken.NoChild) × (new ≡ old)
@@ -152,16 +185,16 @@ end_of_plan seats seat = if is_root_over seats then taken.Ended else if is_simpl
 
 -- what a supervisor does first that is asked to shut down: what it does by itself where its parent wants that, which is to
 -- begin with it; or nothing where it has ended, or work is open, which comes first
-unfoldable pub StopsBy : Option Kind → ℕ → List Seated → List Seated → Type 0
+unfoldable pub StopsBy : Option Kind → ℕ → Stand → Stand → Type 0
 StopsBy None place old new = new ≡ old
 StopsBy (Some k) place old new = Begins place k old new
 
 -- the same of the supervisor at this place
-abbrev pub StopsFirst : ℕ → List Seated → List Seated → Type 0
-StopsFirst place old new = (seat : Seated) → IsAt old place seat → StopsBy (idle_kind (state_in seat) true) place old new
+abbrev pub StopsFirst : ℕ → Stand → Stand → Type 0
+StopsFirst place old new = (seat : Seated) → IsAt old.seats place seat → StopsBy (idle_kind (state_in seat) true) place old new
 
 -- what becomes of a request to shut down, where the root has ended or not
-unfoldable pub Stops : Bool → ℕ → List Seated → ActionEnd → List Seated → Type 0
+unfoldable pub Stops : Bool → ℕ → Stand → ActionEnd → Stand → Type 0
 Stops true place old answer new = (answer ≡ taken.Ended) × (new ≡ old)
 Stops false place old answer new = (answer ≡ taken.Done) × StopsFirst place old new
 
@@ -216,35 +249,35 @@ end_of_expected expected.Alive seat = end_of_test (not (is_over (state_in seat).
 end_of_expected expected.Over seat = end_of_test (is_over (state_in seat).phase)
 
 -- what an action of a script, which is said to the supervisor at this place, does first
-unfoldable pub Acts : Action → ℕ → Seated → List Seated → ActionEnd → List Seated → Type 0
+unfoldable pub Acts : Action → ℕ → Seated → Stand → ActionEnd → Stand → Type 0
 Acts action.Nothing place seat old answer new = (answer ≡ taken.Done) × (new ≡ old)
 Acts (action.Exit c r) place seat old answer new = Ends place r seat (found_for c (state_in seat).rows) old answer new
-Acts (action.Start _ _) place seat old answer new = (answer ≡ end_of_plan old seat) × (new ≡ old)
+Acts (action.Start _ _) place seat old answer new = (answer ≡ end_of_plan old.seats seat) × (new ≡ old)
 Acts (action.Hang c) place seat old answer new = new ≡ old
 Acts (action.Slow c time) place seat old answer new = new ≡ old
 Acts (action.Expect x) place seat old answer new = (answer ≡ end_of_expected x seat) × (new ≡ old)
-Acts action.Stop place seat old answer new = Stops (is_root_over old) place old answer new
+Acts action.Stop place seat old answer new = Stops (is_root_over old.seats) place old answer new
 Acts (action.Call c) place seat old answer new = (answer ≡ taken.Done) × ((n : ℕ) × Begins place (kind.Took (item.Call n c)) old new)
 
 -- the supervisor that a script means stands at this place, and its own children are meant
-abbrev pub ActsAt : Action → ℕ → List Seated → ActionEnd → List Seated → Type 0
-ActsAt a place old answer new = (seat : Seated) → IsAt old place seat → Acts a place seat old answer new
+abbrev pub ActsAt : Action → ℕ → Stand → ActionEnd → Stand → Type 0
+ActsAt a place old answer new = (seat : Seated) → IsAt old.seats place seat → Acts a place seat old answer new
 
 -- the start of a child of the supervisor at this place is planned, or the answer says why it isn't
 abbrev pub PlansAt : ℕ → List Seated → ActionEnd → Type 0
-PlansAt place old answer = (seat : Seated) → IsAt old place seat → answer ≡ end_of_plan old seat
+PlansAt place seats answer = (seat : Seated) → IsAt seats place seat → answer ≡ end_of_plan seats seat
 
 -- whether what is expected of the supervisor at this place, or of a child of it, is so
 abbrev pub ExpectsAt : ℕ → Expected → List Seated → ActionEnd → Type 0
 ExpectsAt place x seats answer = (seat : Seated) → IsAt seats place seat → answer ≡ end_of_expected x seat
 
 -- the process that is meant is that of this child of the supervisor at this place
-abbrev pub EndsAt : ℕ → Reason → Child → List Seated → ActionEnd → List Seated → Type 0
-EndsAt place r c old answer new = (seat : Seated) → IsAt old place seat → Ends place r seat (found_for c (state_in seat).rows) old answer new
+abbrev pub EndsAt : ℕ → Reason → Child → Stand → ActionEnd → Stand → Type 0
+EndsAt place r c old answer new = (seat : Seated) → IsAt old.seats place seat → Ends place r seat (found_for c (state_in seat).rows) old answer new
 
 -- it is this process
-abbrev pub EndsProcessAt : ℕ → ℕ → Reason → List Seated → ActionEnd → List Seated → Type 0
-EndsProcessAt place p r old answer new = (seat : Seated) → IsAt old place seat → EndsUnless (has_end_waiting seat p) place p r old answer new
+abbrev pub EndsProcessAt : ℕ → ℕ → Reason → Stand → ActionEnd → Stand → Type 0
+EndsProcessAt place p r old answer new = (seat : Seated) → IsAt old.seats place seat → EndsUnless (has_end_waiting seat p) place p r old answer new
 
 -- what stands in front of the names of each one's children
 abbrev pub paths_in : List Seated → List (List ℕ)

@@ -1,5 +1,6 @@
 -- A line of a script, done on a trial (own).
-use Rattle.std.specs.Prelude.{ℕ, ◌+◌, ◌-◌, ◌^◌, Bool, true, false, not, ◌&&◌, List, Option, Some, None, if◌then◌else◌, is_some, min, nat_lt, position, slice_get}
+use Prim.Native.Nat.{zero, suc}
+use Rattle.std.specs.Prelude.{◌≡◌, ◌≤◌, ℕ, ◌+◌, ◌-◌, ◌^◌, Bool, true, false, not, ◌&&◌, List, [], ◌++◌, max, Option, Some, None, if◌then◌else◌, is_some, min, nat_lt, position, slice_get}
 use Rattle.otp_reason.specs.declared.name.Name.{Name}
 use Rattle.otp_script.specs.declared.step.Action.{Action}
 use Rattle.otp_script.specs.declared.step.Action.TheVariants as action
@@ -10,7 +11,7 @@ use Rattle.otp_script.specs.declared.step.When.{When}
 use Rattle.otp_script.specs.declared.step.When.TheVariants as when
 use Rattle.otp_spec.specs.declared.limits.TheConstants.{MAX_READING}
 use Rattle.otp_table.specs.Rows.{has_id}
-use Rattle.otp_trial.specs.Played.{Seated, is_root_over, state_in}
+use Rattle.otp_trial.specs.Played.{Makes, Move, Seated, Stand, is_root_over, state_in, story}
 use Rattle.otp_trial.specs.declared.trial.ActionEnd.{ActionEnd}
 use Rattle.otp_trial.specs.declared.trial.ActionEnd.TheVariants as taken
 
@@ -62,3 +63,55 @@ without_process has_ended (action.Expect (expected.Ended c)) = taken.Done
 without_process has_ended (action.Expect expected.Over) = taken.Done
 without_process has_ended (action.Expect _) = taken.Unmet
 without_process has_ended _ = unless_ended has_ended taken.NotRunning
+
+-- once a line came to this, and the root has ended or not, it is done again where it says so
+unfoldable pub goes_on : ActionEnd → Bool → Bool
+goes_on taken.Done has_ended = not has_ended
+goes_on _ has_ended = false
+
+-- the clock goes to this time, unless it is past it, with what comes until then; and then what a line says is done, all of it at one
+-- time
+pub record DoesAt (time : ℕ) (old : Stand) (ms : List Move) (new : Stand) : Type 0 where
+  pub before : List Move
+  pub mid : Stand
+  pub goes : Makes old before mid
+  pub time_is : mid.time ≡ max old.time time
+  pub acts : List Move
+  pub does : Makes mid acts new
+  pub stays : new.time ≡ mid.time
+  pub all : ms ≡ before ++ acts
+
+-- a line is done at its time where that has not gone by; else nothing is
+abbrev pub DoesWhen : Option ℕ → Stand → List Move → Stand → Type 0
+DoesWhen None old ms new = (new ≡ old) × (ms ≡ [])
+DoesWhen (Some time) old ms new = DoesAt time old ms new
+
+-- a line is done so often, each time when it says
+abbrev pub DoesOften : When → ℕ → Stand → List Move → Stand → Type 0
+DoesOften when zero old ms new = (new ≡ old) × (ms ≡ [])
+DoesOften when (suc n) old ms new =
+    (mid : Stand) × ((before : List Move) × ((more : List Move)
+    × (DoesOften when n old before mid × (DoesWhen (time_at mid.time when) mid more new × (ms ≡ before ++ more)))))
+
+-- by these moves a line is done as often as it says, and once at least; less often only where it came to something else in the end,
+-- or the root has ended
+pub record DoesTimes (when : When) (times : ℕ) (end : ActionEnd) (old : Stand) (ms : List Move) (new : Stand) : Type 0 where
+  pub makes : Makes old ms new
+  pub done : ℕ
+  pub does : DoesOften when done old ms new
+  pub once : 1 ≤ done
+  pub most : done ≤ max 1 times
+  pub all : goes_on end (is_root_over new.seats) ≡ true → done ≡ max 1 times
+
+-- the same, and the text tells the orders of these moves
+abbrev pub TellsAt : ℕ → Stand → Stand → List ℕ → List ℕ → Type 0
+TellsAt time old new before after = (ms : List Move) × DoesAt time old ms new × (after ≡ before ++ story ms)
+
+abbrev pub TellsWhen : Option ℕ → Stand → Stand → List ℕ → List ℕ → Type 0
+TellsWhen when old new before after = (ms : List Move) × DoesWhen when old ms new × (after ≡ before ++ story ms)
+
+abbrev pub TellsOften : When → ℕ → Stand → Stand → List ℕ → List ℕ → Type 0
+TellsOften when times old new before after = (ms : List Move) × DoesOften when times old ms new × (after ≡ before ++ story ms)
+
+abbrev pub TellsTimes : When → ℕ → ActionEnd → Stand → Stand → List ℕ → List ℕ → Type 0
+TellsTimes when times end old new before after = (ms : List Move) × DoesTimes when times end old ms new × (after ≡ before ++ story ms)

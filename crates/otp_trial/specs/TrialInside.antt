@@ -1,11 +1,11 @@
 -- What a trial stands for, and what it keeps.
-use Rattle.std.specs.Prelude.{◌<◌, ◌≤◌, List, length}
+use Rattle.std.specs.Prelude.{◌<◌, ◌≤◌, length}
 use Rattle.otp_spec.specs.declared.limits.TheConstants.{MAX_READING}
 use Rattle.otp_trial.specs.declared.trial.Trial.TheInside.{Inside}
-use Rattle.otp_trial.specs.Played.{Seated}
+use Rattle.otp_trial.specs.Played.{Stand}
 
-abbrev pub seats_of : Inside → List Seated
-seats_of t = t.seats.items
+abbrev pub stand_of : Inside → Stand
+stand_of t = record { seats = t.seats.items; clock = t.clock; time = t.time }
 
 pub record IsTrial (t : Inside) : Type 0 where
   -- the root is the first

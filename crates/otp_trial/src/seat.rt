@@ -126,7 +126,7 @@ impl Seat {
         out: &mut Vec<u8>,
     ) -> Result<u64, Halt>
         requires { time ≤ MAX_READING }
-        ensures { OnOk result (Happens kind self.old self.new out.old.items out.new.items) }
+        ensures { OnOk result (Happens time kind self.old self.new out.old.items out.new.items) }
     {
         if !self.is_whole {
             return Err(Halt::OutOfMemory);

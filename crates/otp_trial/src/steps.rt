@@ -1,9 +1,9 @@
 //! A line of a script, done on a trial: at which supervisor, when, how often, and what came of it.
 
-ghost use Rattle.std.specs.Prelude.{◌≡◌, ◌≤◌, ◌<◌, OnOk, IfSome, length};
+ghost use Rattle.std.specs.Prelude.{◌≡◌, ◌≤◌, ◌<◌, IfOk, OnOk, IfSome, length};
 ghost use Rattle.otp_spec.specs.declared.limits.TheConstants.{MAX_READING};
 ghost use Rattle.otp_trial.specs.Played.{Tells};
-ghost use Rattle.otp_trial.specs.Steps.{knows, means_nobody, number_meant, number_of, time_at, unless_ended, without_process};
+ghost use Rattle.otp_trial.specs.Steps.{TellsAt, TellsTimes, TellsWhen, goes_on, knows, means_nobody, number_meant, number_of, time_at, unless_ended, without_process};
 
 use crate::seat::Seat;
 use crate::trial::{ActionEnd, Halt, Trial};
@@ -65,7 +65,7 @@ fn number_of(child: Child) -> Option<u64>
 
 /// The place of the supervisor that a line means: by its path, or by the number of a process.
 fn place_of(trial: &Trial, step: Step<'_>) -> Option<usize>
-    ensures { IfSome result (λ place. place < length trial.now) }
+    ensures { IfSome result (λ place. place < length trial.now.seats) }
 {
     match number_meant(step.action) {
         Some(process) if step.path.is_empty() => Some(trial.place_of_process(process)),
@@ -97,7 +97,7 @@ fn time_at(now: u64, when: When) -> Option<u64>
 /// the core's, and for a start that is planned a later call may add the child. Whoever mistyped the name is told so.
 #[tactic(auto, unfolding(crate::specs::Steps::means_nobody, crate::specs::Steps::is_nobody))]
 fn means_nobody(trial: &Trial, named: Option<Name>, place: Option<usize>) -> bool
-    ensures { result ≡ means_nobody named place trial.now }
+    ensures { result ≡ means_nobody named place trial.now.seats }
 {
     match named {
         None => false,
@@ -131,7 +131,8 @@ fn without_process(has_ended: bool, action: Action) -> ActionEnd
 
 /// What a line says is done at the supervisor that it means.
 fn act(trial: &mut Trial, step: Step<'_>, out: &mut Vec<u8>) -> Result<ActionEnd, Halt>
-    ensures { OnOk result (Tells trial.old trial.new out.old.items out.new.items) }
+    ensures told { OnOk result (Tells trial.old trial.new out.old.items out.new.items) }
+    ensures time { OnOk result (trial.new.time ≡ trial.old.time) }
 {
     let Some(place) = place_of(trial, step) else {
         return Ok(unless_ended(trial.has_ended(), ActionEnd::NoSupervisor));
@@ -149,7 +150,7 @@ fn act(trial: &mut Trial, step: Step<'_>, out: &mut Vec<u8>) -> Result<ActionEnd
 /// The clock goes to this time, and then what a line says is done.
 fn do_at(trial: &mut Trial, time: u64, step: Step<'_>, out: &mut Vec<u8>) -> Result<Outcome, Halt>
     requires { time ≤ MAX_READING }
-    ensures { OnOk result (Tells trial.old trial.new out.old.items out.new.items) }
+    ensures { OnOk result (TellsAt time trial.old trial.new out.old.items out.new.items) }
 {
     trial.go_to(time, out)?;
     let is_unknown = means_nobody(trial, named_in(step.action), place_of(trial, step));
@@ -159,7 +160,7 @@ fn do_at(trial: &mut Trial, time: u64, step: Step<'_>, out: &mut Vec<u8>) -> Res
 
 /// What a line says: the clock goes on, and then it is done, unless its time has gone by.
 fn do_step(trial: &mut Trial, step: Step<'_>, out: &mut Vec<u8>) -> Result<Outcome, Halt>
-    ensures { OnOk result (Tells trial.old trial.new out.old.items out.new.items) }
+    ensures { OnOk result (TellsWhen (time_at trial.old.time step.entry.when) trial.old trial.new out.old.items out.new.items) }
 {
     match time_at(trial.time(), step.when) {
         None => Ok(Outcome {
@@ -170,27 +171,32 @@ fn do_step(trial: &mut Trial, step: Step<'_>, out: &mut Vec<u8>) -> Result<Outco
     }
 }
 
-/// What a line says, as often as it says. Where the root has ended meanwhile, the rest is left out.
-pub fn do_times(trial: &mut Trial, step: Step<'_>, out: &mut Vec<u8>) -> Result<Outcome, Halt>
-    ensures { OnOk result (Tells trial.old trial.new out.old.items out.new.items) }
+/// Whether a line that came to this is done again, where it says so.
+#[tactic(auto, unfolding(crate::specs::Steps::goes_on))]
+fn goes_on(taken: ActionEnd, has_ended: bool) -> bool
+    ensures { result ≡ goes_on taken has_ended }
 {
-    let first = do_step(trial, step, out)?;
-    let last = do_others(trial, step, first, out)?;
-    Ok(last)
+    match taken {
+        ActionEnd::Done => !has_ended,
+        _ => false,
+    }
 }
 
-/// What a line says once more, as often as it says, after it came to this.
-fn do_others(
-    trial: &mut Trial,
-    step: Step<'_>,
-    first: Outcome,
-    out: &mut Vec<u8>,
-) -> Result<Outcome, Halt>
-    ensures { OnOk result (Tells trial.old trial.new out.old.items out.new.items) }
+/// What a line says, as often as it says. Where the root has ended meanwhile, the rest is left out.
+pub fn do_times(trial: &mut Trial, step: Step<'_>, out: &mut Vec<u8>) -> Result<Outcome, Halt>
+    ensures told { OnOk result (Tells trial.old trial.new out.old.items out.new.items) }
+    ensures often { IfOk result (λ outcome. TellsTimes step.entry.when step.entry.times outcome.taken trial.old trial.new out.old.items out.new.items) }
 {
-    let mut outcome = first;
-    for _ in 1..step.times {
-        if outcome.taken != ActionEnd::Done || trial.has_ended() {
+    do_each(trial, step, out)
+}
+
+/// What a line says, time for time.
+fn do_each(trial: &mut Trial, step: Step<'_>, out: &mut Vec<u8>) -> Result<Outcome, Halt>
+    ensures { IfOk result (λ outcome. TellsTimes step.entry.when step.entry.times outcome.taken trial.old trial.new out.old.items out.new.items) }
+{
+    let mut outcome = do_step(trial, step, out)?;
+    for done in 1..step.times {
+        if !goes_on(outcome.taken, trial.has_ended()) {
             return Ok(outcome);
         }
         outcome = do_step(trial, step, out)?;

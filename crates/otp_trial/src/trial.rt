@@ -1,11 +1,11 @@
 //! A tree that is tried.
 
-ghost use Rattle.std.specs.Prelude.{ℕ, List, ◌∷◌, Bool, true, ◌≡◌, ◌<◌, ◌≤◌, OnOk, IfOk, IfSome, length, map};
+ghost use Rattle.std.specs.Prelude.{ℕ, List, ◌∷◌, Bool, true, ◌≡◌, ◌<◌, ◌≤◌, OnOk, IfOk, IfSome, length, map, max};
 ghost use Rattle.otp_reason.specs.declared.note.Note.TheVariants as note;
 ghost use Rattle.otp_rules.specs.declared.event.Item.TheVariants as item;
 ghost use Rattle.otp_rules.specs.declared.event.Kind.TheVariants as kind;
 ghost use Rattle.otp_spec.specs.declared.limits.TheConstants.{MAX_READING};
-ghost use Rattle.otp_trial.specs.Played.{ActsAt, Begins, EndsAt, EndsProcessAt, ExpectsAt, IsPlanted, PlansAt, Seated, Stops, StopsFirst, Tells, TellsFirst, fresh, is_root_over};
+ghost use Rattle.otp_trial.specs.Played.{ActsAt, Begins, EndsAt, EndsProcessAt, ExpectsAt, IsPlanted, PlansAt, Seated, Stops, StopsFirst, Tells, TellsFirst, at_start, fresh, is_root_over, now_of};
 ghost use Rattle.otp_trial.specs.Taken.{taken_text};
 ghost use Rattle.otp_trial.specs.declared.trial.ActionEnd.TheVariants.{Done};
 
@@ -131,14 +131,13 @@ pub struct Trial {
 }
 
 impl Model for Trial {
-    ghost use Rattle.std.specs.Prelude.{List};
-    ghost use Rattle.otp_trial.specs.Played.{Seated};
+    ghost use Rattle.otp_trial.specs.Played.{Stand};
 
-    ghost Value = { List Seated };
+    ghost Value = { Stand };
 
-    ghost use Rattle.otp_trial.specs.TrialInside.{IsTrial, seats_of};
+    ghost use Rattle.otp_trial.specs.TrialInside.{IsTrial, stand_of};
 
-    ghost view = { seats_of };
+    ghost view = { stand_of };
 
     ghost invariant = { IsTrial };
 }
@@ -157,8 +156,9 @@ impl Trial {
         clock: Clock,
         out: &mut Vec<u8>,
     ) -> Result<Self, Halt>
-        ensures opened { IfOk result (λ trial. (before : List Seated) × IsPlanted tells tree.now before × Tells before trial out.old.items out.new.items × Begins 0 (kind.Opened 0) before trial) }
-        ensures told { IfOk result (λ trial. (before : List Seated) × IsPlanted tells tree.now before × TellsFirst 0 (kind.Opened 0) before trial out.old.items out.new.items) }
+        ensures opened { IfOk result (λ trial. (before : List Seated) × IsPlanted tells tree.now before × Tells (at_start clock before) trial out.old.items out.new.items × Begins 0 (kind.Opened 0) (at_start clock before) trial) }
+        ensures told { IfOk result (λ trial. (before : List Seated) × IsPlanted tells tree.now before × TellsFirst 0 (kind.Opened 0) (at_start clock before) trial out.old.items out.new.items) }
+        ensures time { IfOk result (λ trial. trial.time ≡ 0) }
     {
         let plants = plant(alloc, tree, tells)?;
         if plants.seats.is_empty() {
@@ -190,7 +190,7 @@ impl Trial {
     ///
     /// Where memory is refused.
     pub fn again(&self, out: &mut Vec<u8>) -> Result<Self, Halt>
-        ensures { IfOk result (λ trial. Tells (map fresh self.now) trial out.old.items out.new.items) }
+        ensures { IfOk result (λ trial. Tells (at_start self.now.clock (map fresh self.now.seats)) trial out.old.items out.new.items) }
     {
         let seats = fresh_seats(self.alloc, self.seats.as_slice())?;
         let Ok(world) = self.world.again(self.alloc) else {
@@ -223,21 +223,21 @@ impl Trial {
 
     /// The supervisors, the root first, and each before its children.
     pub fn seats(&self) -> &[Seat]
-        ensures { result.now ≡ self.now }
+        ensures { result.now ≡ self.now.seats }
     {
         self.seats.as_slice()
     }
 
     /// The place of the supervisor whose children's names stand behind this path, as `sub/`; the root's is empty.
     pub fn place_of(&self, path: &[u8]) -> Option<usize>
-        ensures { IfSome result (λ place. place < length self.now) }
+        ensures { IfSome result (λ place. place < length self.now.seats) }
     {
         self.seats.iter().position(|seat| seat.path() == path)
     }
 
     /// The place of the supervisor of which a child has a process of this number; the root's where there is none.
     pub fn place_of_process(&self, process: u64) -> usize
-        ensures { result < length self.now }
+        ensures { result < length self.now.seats }
     {
         place_of_process(&self.world, self.seats.as_slice(), process)
     }
@@ -249,7 +249,7 @@ impl Trial {
     /// Where memory is refused.
     pub fn running(&self) -> Result<Vec<bool>, AllocError>
         ensures root { IfOk result (λ running. (others : List Bool) × (running.items ≡ true ∷ others)) }
-        ensures each { IfOk result (λ running. length running.items ≡ length self.now) }
+        ensures each { IfOk result (λ running. length running.items ≡ length self.now.seats) }
     {
         let mut running = Vec::new(self.alloc);
         running.push(true).map_err(|_| AllocError)?;
@@ -269,7 +269,7 @@ impl Trial {
     /// Whether the root has ended.
     #[tactic(auto, unfolding(crate::specs::Played::is_root_over))]
     pub fn has_ended(&self) -> bool
-        ensures { result ≡ is_root_over self.now }
+        ensures { result ≡ is_root_over self.now.seats }
     {
         match self.seats.as_slice() {
             [] => true,
@@ -295,30 +295,35 @@ impl Trial {
     }
 
     /// By which clock it is played.
-    pub fn clock(&self) -> Clock {
+    pub fn clock(&self) -> Clock
+        ensures { result ≡ self.now.clock }
+    {
         self.clock
     }
 
     /// The time since the beginning, in milliseconds.
     pub fn time(&self) -> u64
-        ensures { result ≤ MAX_READING }
+        ensures value { result ≡ self.now.time }
+        ensures limit { result ≤ MAX_READING }
     {
         self.time
     }
 
     /// What the clock shows, in milliseconds since the beginning.
     pub fn now(&self) -> u64
-        ensures { result ≤ MAX_READING }
+        ensures value { result ≡ now_of self.now }
+        ensures limit { result ≤ MAX_READING }
     {
         self.clock.shown(self.time)
     }
 
     /// Something happens now at the supervisor at this place, and is told.
     fn happen(&mut self, place: usize, kind: Kind, out: &mut Vec<u8>) -> Result<(), Halt>
-        requires { place < length self.old }
+        requires { place < length self.old.seats }
         ensures told { OnOk result (Tells self.old self.new out.old.items out.new.items) }
         ensures first { OnOk result (Begins place kind self.old self.new) }
         ensures begins { OnOk result (TellsFirst place kind self.old self.new out.old.items out.new.items) }
+        ensures time { OnOk result (self.new.time ≡ self.old.time) }
     {
         let now = self.now();
         self.last = self.seats[place].happen(now, kind, self.last, &mut self.printer, out)?;
@@ -330,8 +335,9 @@ impl Trial {
 
     /// The supervisor at this place starts under this number, as a child of its parent.
     fn begin(&mut self, place: usize, process: u64, out: &mut Vec<u8>) -> Result<(), Halt>
-        requires { place < length self.old }
-        ensures { OnOk result (Tells self.old self.new out.old.items out.new.items) }
+        requires { place < length self.old.seats }
+        ensures told { OnOk result (Tells self.old self.new out.old.items out.new.items) }
+        ensures time { OnOk result (self.new.time ≡ self.old.time) }
     {
         self.seats[place].renew(self.alloc)?;
         self.world.begin(place, process);
@@ -350,7 +356,8 @@ impl Trial {
 
     /// What comes next is done.
     fn take(&mut self, deed: Deed, out: &mut Vec<u8>) -> Result<(), Halt>
-        ensures { OnOk result (Tells self.old self.new out.old.items out.new.items) }
+        ensures told { OnOk result (Tells self.old self.new out.old.items out.new.items) }
+        ensures time { OnOk result (self.new.time ≡ self.old.time) }
     {
         if deed.place >= self.seats.len() {
             return Ok(());
@@ -363,7 +370,8 @@ impl Trial {
 
     /// All of that happens until none is left to happen.
     fn settle(&mut self, out: &mut Vec<u8>) -> Result<(), Halt>
-        ensures { OnOk result (Tells self.old self.new out.old.items out.new.items) }
+        ensures told { OnOk result (Tells self.old self.new out.old.items out.new.items) }
+        ensures time { OnOk result (self.new.time ≡ self.old.time) }
     {
         for _ in 0..u64::MAX {
             let Some(deed) = self.next_deed() else {
@@ -376,10 +384,11 @@ impl Trial {
 
     /// Something happens at the supervisor at this place, and all that follows from it.
     fn play(&mut self, place: usize, kind: Kind, out: &mut Vec<u8>) -> Result<(), Halt>
-        requires { place < length self.old }
+        requires { place < length self.old.seats }
         ensures told { OnOk result (Tells self.old self.new out.old.items out.new.items) }
         ensures first { OnOk result (Begins place kind self.old self.new) }
         ensures begins { OnOk result (TellsFirst place kind self.old self.new out.old.items out.new.items) }
+        ensures time { OnOk result (self.new.time ≡ self.old.time) }
     {
         self.happen(place, kind, out)?;
         self.settle(out)
@@ -427,7 +436,8 @@ impl Trial {
     /// children that end before it end first, in their order, with all that follows from each.
     pub fn go_to(&mut self, time: u64, out: &mut Vec<u8>) -> Result<(), Halt>
         requires { time ≤ MAX_READING }
-        ensures { OnOk result (Tells self.old self.new out.old.items out.new.items) }
+        ensures told { OnOk result (Tells self.old self.new out.old.items out.new.items) }
+        ensures time { OnOk result (self.new.time ≡ max self.old.time time) }
     {
         for _ in 0..u64::MAX {
             let Some(next) = self.next_until(time) else {
@@ -450,9 +460,10 @@ impl Trial {
         action: Action,
         out: &mut Vec<u8>,
     ) -> Result<ActionEnd, Halt>
-        requires { place < length self.old }
+        requires { place < length self.old.seats }
         ensures told { OnOk result (Tells self.old self.new out.old.items out.new.items) }
         ensures acted { IfOk result (λ taken. ActsAt action place self.old taken self.new) }
+        ensures time { OnOk result (self.new.time ≡ self.old.time) }
     {
         match action {
             Action::Nothing => Ok(ActionEnd::Done),
@@ -479,9 +490,10 @@ impl Trial {
         reason: Reason,
         out: &mut Vec<u8>,
     ) -> Result<(), Halt>
-        requires { place < length self.old }
+        requires { place < length self.old.seats }
         ensures told { OnOk result (Tells self.old self.new out.old.items out.new.items) }
         ensures first { OnOk result (Begins place (kind.Took (item.Note (note.Exit process reason))) self.old self.new) }
+        ensures time { OnOk result (self.new.time ≡ self.old.time) }
     {
         self.world.lose(place, process);
         self.play(
@@ -500,9 +512,10 @@ impl Trial {
         reason: Reason,
         out: &mut Vec<u8>,
     ) -> Result<ActionEnd, Halt>
-        requires { place < length self.old }
+        requires { place < length self.old.seats }
         ensures told { OnOk result (Tells self.old self.new out.old.items out.new.items) }
         ensures ends { IfOk result (λ taken. EndsProcessAt place process reason self.old taken self.new) }
+        ensures time { OnOk result (self.new.time ≡ self.old.time) }
     {
         if self.seats[place].has_end_waiting(process) {
             return Ok(ActionEnd::EndWaits);
@@ -520,9 +533,10 @@ impl Trial {
         reason: Reason,
         out: &mut Vec<u8>,
     ) -> Result<ActionEnd, Halt>
-        requires { place < length self.old }
+        requires { place < length self.old.seats }
         ensures told { OnOk result (Tells self.old self.new out.old.items out.new.items) }
         ensures ends { IfOk result (λ taken. EndsAt place reason child.now self.old taken self.new) }
+        ensures time { OnOk result (self.new.time ≡ self.old.time) }
     {
         match found_for(child, self.seats[place].rows()) {
             Found::Process(process) => self.end_found(place, process, reason, out),
@@ -534,9 +548,9 @@ impl Trial {
     /// The next start of a child of the supervisor at this place answers so. The child need not be there: a call may add it.
     #[tactic(auto, unfolding(crate::specs::Played::end_of_plan))]
     fn plan_start(&mut self, place: usize, id: Name, start: NextStart) -> Result<ActionEnd, Halt>
-        requires { place < length self.old }
+        requires { place < length self.old.seats }
         ensures same { self.new ≡ self.old }
-        ensures plans { IfOk result (λ taken. PlansAt place self.old taken) }
+        ensures plans { IfOk result (λ taken. PlansAt place self.old.seats taken) }
     {
         if self.has_ended() {
             return Ok(ActionEnd::Ended);
@@ -554,9 +568,10 @@ impl Trial {
     /// work is open, it does once that is done.
     #[tactic(auto, unfolding(crate::specs::Played::StopsBy))]
     fn want_stop(&mut self, place: usize, out: &mut Vec<u8>) -> Result<(), Halt>
-        requires { place < length self.old }
+        requires { place < length self.old.seats }
         ensures told { OnOk result (Tells self.old self.new out.old.items out.new.items) }
         ensures first { OnOk result (StopsFirst place self.old self.new) }
+        ensures time { OnOk result (self.new.time ≡ self.old.time) }
     {
         self.world.stop(place);
         match self.seats[place].idle_kind(true) {
@@ -568,9 +583,10 @@ impl Trial {
     /// The supervisor at this place is asked to shut down, and all that follows from it happens.
     #[tactic(auto, unfolding(crate::specs::Played::Stops))]
     fn stop(&mut self, place: usize, out: &mut Vec<u8>) -> Result<ActionEnd, Halt>
-        requires { place < length self.old }
+        requires { place < length self.old.seats }
         ensures told { OnOk result (Tells self.old self.new out.old.items out.new.items) }
-        ensures stops { IfOk result (λ taken. Stops (is_root_over self.old) place self.old taken self.new) }
+        ensures stops { IfOk result (λ taken. Stops (is_root_over self.old.seats) place self.old taken self.new) }
+        ensures time { OnOk result (self.new.time ≡ self.old.time) }
     {
         if self.has_ended() {
             return Ok(ActionEnd::Ended);
@@ -581,15 +597,15 @@ impl Trial {
 
     /// Whether what is expected of the supervisor at this place, or of a child of it, is so.
     fn expect(&self, place: usize, expected: Expected) -> Result<ActionEnd, Halt>
-        requires { place < length self.now }
-        ensures { IfOk result (λ taken. ExpectsAt place expected self.now taken) }
+        requires { place < length self.now.seats }
+        ensures { IfOk result (λ taken. ExpectsAt place expected self.now.seats taken) }
     {
         self.seats[place].meets(expected)
     }
 
     /// A child of the supervisor at this place will not end when it is next asked to shut down, or so much later.
     fn hang(&mut self, place: usize, child: Child, delay: Option<u64>) -> Result<ActionEnd, Halt>
-        requires { place < length self.old }
+        requires { place < length self.old.seats }
         ensures { self.new ≡ self.old }
     {
         if found_for(&child, self.seats[place].rows()) == Found::NoChild {
@@ -601,9 +617,10 @@ impl Trial {
 
     /// Somebody calls the supervisor at this place.
     fn call(&mut self, place: usize, call: Call, out: &mut Vec<u8>) -> Result<ActionEnd, Halt>
-        requires { place < length self.old }
+        requires { place < length self.old.seats }
         ensures told { OnOk result (Tells self.old self.new out.old.items out.new.items) }
         ensures called { IfOk result (λ taken. (taken ≡ Done) × ((n : ℕ) × Begins place (kind.Took (item.Call n call)) self.old self.new)) }
+        ensures time { OnOk result (self.new.time ≡ self.old.time) }
     {
         self.calls = self.calls.saturating_add(1);
         let number = self.calls;

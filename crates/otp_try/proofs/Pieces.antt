@@ -1,35 +1,33 @@
 -- Pieces of a run that come one after another.
-use Rattle.std.specs.Prelude.{◌≡◌, ℕ, Bool, List, [], ◌∷◌, ◌++◌, map, refl, slice_set}
+use Rattle.std.specs.Prelude.{◌≡◌, ℕ, Bool, List, [], ◌∷◌, ◌++◌, map, refl}
 use Rattle.std.proofs.Common.{◌∙◌, ap, sym, subst, append_assoc, append-nil}
-use Rattle.otp_try.specs.Page.{Adds, Leads, Moved, Piece, Remark, Said, Undone, pieces_text, remark_text, shown, verdict_text}
+use Rattle.otp_try.specs.Page.{Adds, Did, Leads, Piece, Remark, Said, Undone, pieces_text, remark_text, shown, verdict_text}
 use Rattle.otp_remarks.specs.Lines.{heading_line}
+use Rattle.otp_script.specs.declared.step.When.{When}
 use Rattle.otp_try.specs.Page.Remark.{Heading, Verdict}
-use Rattle.otp_trial.specs.Played.{Lead, Move, Seated, Tells, fresh, move_text, seat_after, story}
+use Rattle.otp_trial.specs.Played.{Stand, Tells, at_start, fresh, story}
+use Rattle.otp_trial.specs.Steps.{TellsTimes}
 use Rattle.otp_try.specs.declared.play.Writer.{Writer}
 use Rattle.otp_trial.specs.declared.trial.ActionEnd.{ActionEnd}
 
--- the supervisors after a move
-abbrev pub after : List Seated → Move → List Seated
-after seats m = slice_set seats m.place (seat_after m)
-
-pub leads-append : (a b c : List Seated) (ps qs : List Piece) → Leads a ps b → Leads b qs c → Leads a (ps ++ qs) c
-leads-append a b c [] qs first second = subst (λ (s : List Seated). Leads s qs c) first second
-leads-append a b c (Moved m ∷ ps) qs (here, rest) second = (here, leads-append (after a m) b c ps qs rest second)
+pub leads-append : (a b c : Stand) (ps qs : List Piece) → Leads a ps b → Leads b qs c → Leads a (ps ++ qs) c
+leads-append a b c [] qs first second = subst (λ (s : Stand). Leads s qs c) first second
 leads-append a b c (Said r ∷ ps) qs first second = leads-append a b c ps qs first second
-leads-append a b c (Undone ms other ∷ ps) qs (here, rest) second = (here, leads-append other b c ps qs rest second)
+leads-append a b c (Did when times end ms other ∷ ps) qs (does, rest) second = (does, leads-append other b c ps qs rest second)
+leads-append a b c (Undone ms other ∷ ps) qs (made, rest) second = (made, leads-append other b c ps qs rest second)
 
-pub text-append : (a b : List Seated) (ps qs : List Piece) → Leads a ps b → pieces_text a (ps ++ qs) ≡ pieces_text a ps ++ pieces_text b qs
-text-append a b [] qs first = ap (λ (s : List Seated). pieces_text s qs) (sym first)
-text-append a b (Moved m ∷ ps) qs (here, rest) =
-    ap (λ (text : List ℕ). move_text m ++ text) (text-append (after a m) b ps qs rest)
-    ∙ sym (append_assoc (move_text m) (pieces_text (after a m) ps) (pieces_text b qs))
+pub text-append : (a b : Stand) (ps qs : List Piece) → Leads a ps b → pieces_text a (ps ++ qs) ≡ pieces_text a ps ++ pieces_text b qs
+text-append a b [] qs first = ap (λ (s : Stand). pieces_text s qs) (sym first)
 text-append a b (Said r ∷ ps) qs first =
     ap (λ (text : List ℕ). remark_text r a ++ text) (text-append a b ps qs first)
     ∙ sym (append_assoc (remark_text r a) (pieces_text a ps) (pieces_text b qs))
-text-append a b (Undone ms other ∷ ps) qs (here, rest) = text-append other b ps qs rest
+text-append a b (Did when times end ms other ∷ ps) qs (does, rest) =
+    ap (λ (text : List ℕ). story ms ++ text) (text-append other b ps qs rest)
+    ∙ sym (append_assoc (story ms) (pieces_text other ps) (pieces_text b qs))
+text-append a b (Undone ms other ∷ ps) qs (made, rest) = text-append other b ps qs rest
 
 -- what was put on the page first, and then what was put behind it
-pub adds-then : (a b c : List Seated) (x y z : List ℕ) → Adds a b x y → Adds b c y z → Adds a c x z
+pub adds-then : (a b c : Stand) (x y z : List ℕ) → Adds a b x y → Adds b c y z → Adds a c x z
 adds-then a b c x y z first second = record {
   pieces = first.pieces ++ second.pieces;
   lead = leads-append a b c first.pieces second.pieces first.lead second.lead;
@@ -40,11 +38,11 @@ adds-then a b c x y z first second = record {
 }
 
 -- nothing
-pub adds_nothing : (a b : List Seated) (x y : List ℕ) → b ≡ a → y ≡ x → Adds a b x y
+pub adds_nothing : (a b : Stand) (x y : List ℕ) → b ≡ a → y ≡ x → Adds a b x y
 adds_nothing a b x y stands same = record { pieces = []; lead = stands; text = same ∙ sym (append-nil x) }
 
 -- a remark
-pub adds_remark : (a b : List Seated) (x y : List ℕ) (r : Remark) → b ≡ a → y ≡ x ++ remark_text r a → Adds a b x y
+pub adds_remark : (a b : Stand) (x y : List ℕ) (r : Remark) → b ≡ a → y ≡ x ++ remark_text r a → Adds a b x y
 adds_remark a b x y r stands said = record {
   pieces = Said r ∷ [];
   lead = stands;
@@ -52,38 +50,24 @@ adds_remark a b x y r stands said = record {
 }
 
 -- the tree stands as at the beginning, and then moves are made of which nothing is told
-pub adds_undone : (a b : List Seated) (x y p q : List ℕ) → Tells (map fresh a) b x y → q ≡ p → Adds a b p q
-adds_undone a b x y p q (ms, led, told) same = record { pieces = Undone ms b ∷ []; lead = (led, refl); text = same ∙ sym (append-nil p) }
+pub adds_undone : (a b : Stand) (x y p q : List ℕ) → Tells (at_start a.clock (map fresh a.seats)) b x y → q ≡ p → Adds a b p q
+adds_undone a b x y p q (ms, made, told) same =
+    record { pieces = Undone ms b ∷ []; lead = (made, refl); text = same ∙ sym (append-nil p) }
 
 -- the same after moves that were told elsewhere
-pub undone_by : (a b : List Seated) (p : List ℕ) → ((x : List ℕ) × (y : List ℕ) × Tells (map fresh a) b x y) → Adds a b p p
+pub undone_by : (a b : Stand) (p : List ℕ) → ((x : List ℕ) × (y : List ℕ) × Tells (at_start a.clock (map fresh a.seats)) b x y) → Adds a b p p
 undone_by a b p (x, y, told) = adds_undone a b x y p p told refl
 
--- moves alone
-moved : List Move → List Piece
-moved [] = []
-moved (m ∷ ms) = Moved m ∷ moved ms
-
-leads_moved : (a b : List Seated) (ms : List Move) → Lead a ms b → Leads a (moved ms) b
-unfolding moved
-leads_moved a b [] same = same
-leads_moved a b (m ∷ ms) (here, rest) = (here, leads_moved (after a m) b ms rest)
-
-text_moved : (a : List Seated) (ms : List Move) → pieces_text a (moved ms) ≡ story ms
-unfolding moved
-text_moved a [] = refl
-text_moved a (m ∷ ms) = ap (λ (text : List ℕ). move_text m ++ text) (text_moved (after a m) ms)
-
--- the orders of moves are told
-pub adds_moves : (a b : List Seated) (x y : List ℕ) → Tells a b x y → Adds a b x y
-adds_moves a b x y (ms, led, told) = record {
-  pieces = moved ms;
-  lead = leads_moved a b ms led;
-  text = told ∙ ap (λ (text : List ℕ). x ++ text) (sym (text_moved a ms));
+-- a line was done
+pub adds_done : (when : When) (times : ℕ) (end : ActionEnd) (a b : Stand) (x y : List ℕ) → TellsTimes when times end a b x y → Adds a b x y
+adds_done when times end a b x y (ms, does, told) = record {
+  pieces = Did when times end ms b ∷ [];
+  lead = (does, refl);
+  text = told ∙ ap (λ (text : List ℕ). x ++ text) (sym (append-nil (story ms)));
 }
 
 -- what was written down from an empty sheet on is put on the page
-pub adds_sheet : (a b : List Seated) (sheet written page new : List ℕ) → sheet ≡ [] → Adds a b sheet written → new ≡ page ++ written → Adds a b page new
+pub adds_sheet : (a b : Stand) (sheet written page new : List ℕ) → sheet ≡ [] → Adds a b sheet written → new ≡ page ++ written → Adds a b page new
 adds_sheet a b sheet written page new empty told put = record {
   pieces = told.pieces;
   lead = told.lead;
@@ -91,11 +75,11 @@ adds_sheet a b sheet written page new empty told put = record {
 }
 
 -- the heading of a line, then what its supervisors order, then what became of it
-pub adds_line : (number k : ℕ) (line : List ℕ) (by : Writer) (is_unknown : Bool) (end : ActionEnd) (a b : List Seated) (w x y z : List ℕ)
-    → ((has_heading : Bool) × (x ≡ w ++ heading_line has_heading number line)) → Tells a b x y → ((is_told : Bool) × (z ≡ y ++ shown is_told (verdict_text by k line is_unknown end)))
+pub adds_line : (number k : ℕ) (line : List ℕ) (by : Writer) (is_unknown : Bool) (when : When) (times : ℕ) (end : ActionEnd) (a b : Stand) (w x y z : List ℕ)
+    → ((has_heading : Bool) × (x ≡ w ++ heading_line has_heading number line)) → TellsTimes when times end a b x y → ((is_told : Bool) × (z ≡ y ++ shown is_told (verdict_text by k line is_unknown end)))
     → Adds a b w z
 unfolding remark_text
-adds_line number k line by is_unknown end a b w x y z (has_heading, above) told (is_told, below) =
+adds_line number k line by is_unknown when times end a b w x y z (has_heading, above) told (is_told, below) =
     adds-then a b b w y z
-    (adds-then a a b w x y (adds_remark a a w x (Heading has_heading number line) refl above) (adds_moves a b x y told))
+    (adds-then a a b w x y (adds_remark a a w x (Heading has_heading number line) refl above) (adds_done when times end a b x y told))
     (adds_remark b b y z (Verdict is_told by k line is_unknown end) refl below)

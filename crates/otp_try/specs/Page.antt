@@ -1,9 +1,10 @@
 -- What is put on the page of a trial: the orders of its supervisors, in order, all of them or the ends alone, and remarks between
 -- them (own).
-use Rattle.std.specs.Prelude.{◌≡◌, ℕ, Bool, true, false, Option, List, [], ◌∷◌, ◌++◌, codes, map, slice_set}
+use Rattle.std.specs.Prelude.{◌≡◌, ℕ, Bool, true, false, Option, List, [], ◌∷◌, ◌++◌, codes, map}
 use Rattle.otp_timeline.specs.declared.moment.Moment.{Moment}
 use Rattle.otp_remarks.specs.Lines.{heading_line, known_text, left_out_text, unmet_text}
-use Rattle.otp_trial.specs.Played.{IsAt, Lead, Move, Seated, fresh, move_text, seat_after}
+use Rattle.otp_trial.specs.Played.{Makes, Move, Seated, Stand, at_start, fresh, now_of, story}
+use Rattle.otp_trial.specs.Steps.{DoesTimes}
 use Rattle.otp_remarks.specs.Prompt.{prompt_text, standings_text}
 use Rattle.otp_remarks.specs.Sketched.{drawing}
 use Rattle.otp_remarks.specs.Summaries.{summary_text}
@@ -13,7 +14,7 @@ use Rattle.otp_remarks.specs.Texts.{farewell_text, help_text, legend_text, welco
 use Rattle.otp_try.specs.declared.play.Writer.{Writer}
 use Rattle.otp_try.specs.declared.play.Writer.TheVariants as writer
 use Rattle.otp_script.specs.declared.fault.ScriptFault.{ScriptFault}
-use Rattle.otp_trial.specs.declared.clock.Clock.{Clock}
+use Rattle.otp_script.specs.declared.step.When.{When}
 use Rattle.otp_trial.specs.declared.trial.ActionEnd.{ActionEnd}
 use Rattle.otp_trial.specs.declared.trial.ActionEnd.TheVariants as taken
 use Rattle.otp_world.specs.declared.plans.Hang.{Hang}
@@ -31,15 +32,15 @@ pub data Remark : Type 0 where
   Fault : ScriptFault → Remark
   -- behind what a line did, if that is told: its number and text, whether it names nobody, and what became of it
   Verdict : Bool → Writer → ℕ → List ℕ → Bool → ActionEnd → Remark
-  -- the prompt at this time; what happens next by itself, and whether events wait
-  Prompt : ℕ → Option ℕ → Bool → Remark
-  -- how the supervisors stand at this time, of which these have a process
-  Status : ℕ → List Bool → Remark
+  -- the prompt; what happens next by itself, and whether events wait
+  Prompt : Option ℕ → Bool → Remark
+  -- how the supervisors stand, of which these have a process
+  Status : List Bool → Remark
   -- where the input ends: the end of the line of the prompt
   Farewell : Remark
-  -- at the end: how the supervisors stand at this time by this clock, of which these have a process, and the plans of which nothing
-  -- came, and then the verdict; or that alone
-  Summary : Bool → Bool → Clock → ℕ → List Bool → List Plan → List Hang → Remark
+  -- at the end: how the supervisors stand, of which these have a process, and the plans of which nothing came, and then the verdict;
+  -- or that alone
+  Summary : Bool → Bool → List Bool → List Plan → List Hang → Remark
   -- how these supervisors stood at these moments
   Picture : Bool → List Seated → List Moment → Remark
 
@@ -64,43 +65,45 @@ shown true text = text
 unfoldable pub fault_line : ScriptFault → List ℕ
 fault_line why = fault_text why ++ codes "\n"
 
--- what a remark says where the supervisors stand so
-unfoldable pub remark_text : Remark → List Seated → List ℕ
-remark_text Welcome seats = welcome_text
-remark_text Help seats = help_text
-remark_text Legend seats = legend_text
-remark_text (Heading has_heading number line) seats = heading_line has_heading number line
-remark_text (Fault why) seats = fault_line why
-remark_text (Verdict is_told writer number line is_unknown taken) seats = shown is_told (verdict_text writer number line is_unknown taken)
-remark_text (Prompt now next waits) seats = prompt_text seats now next waits
-remark_text (Status now running) seats = standings_text now seats running
-remark_text Farewell seats = farewell_text
-remark_text (Summary is_quiet is_played by now running plans hanging) seats = summary_text is_quiet is_played by now seats running plans hanging
-remark_text (Picture is_coloured drawn moments) seats = drawing is_coloured drawn moments
+-- what a remark says of a run that stands so
+unfoldable pub remark_text : Remark → Stand → List ℕ
+remark_text Welcome stand = welcome_text
+remark_text Help stand = help_text
+remark_text Legend stand = legend_text
+remark_text (Heading has_heading number line) stand = heading_line has_heading number line
+remark_text (Fault why) stand = fault_line why
+remark_text (Verdict is_told writer number line is_unknown taken) stand = shown is_told (verdict_text writer number line is_unknown taken)
+remark_text (Prompt next waits) stand = prompt_text stand.seats (now_of stand) next waits
+remark_text (Status running) stand = standings_text (now_of stand) stand.seats running
+remark_text Farewell stand = farewell_text
+remark_text (Summary is_quiet is_played running plans hanging) stand =
+    summary_text is_quiet is_played stand.clock (now_of stand) stand.seats running plans hanging
+remark_text (Picture is_coloured drawn moments) stand = drawing is_coloured drawn moments
 
--- what comes next of a run: a move, or something is said; or a person wants lines undone: the tree stands as at the beginning of
--- the run, and then these moves are made, of which nothing is told, and lead to these supervisors
+-- what comes next of a run: something is said; or a line is done by these moves as often as it says, each time when it says, came to
+-- this, and the run stands so; or a person wants lines undone: the tree stands as at the beginning of the run, and then these moves
+-- are made, of which nothing is told, and the run stands so
 pub data Piece : Type 0 where
-  Moved : Move → Piece
   Said : Remark → Piece
-  Undone : List Move → List Seated → Piece
+  Did : When → ℕ → ActionEnd → List Move → Stand → Piece
+  Undone : List Move → Stand → Piece
 
--- the moves among the pieces lead from these supervisors to those
-abbrev pub Leads : List Seated → List Piece → List Seated → Type 0
-Leads seats [] after = after ≡ seats
-Leads seats (Moved m ∷ ps) after = IsAt seats m.place m.seat × Leads (slice_set seats m.place (seat_after m)) ps after
-Leads seats (Said r ∷ ps) after = Leads seats ps after
-Leads seats (Undone ms other ∷ ps) after = Lead (map fresh seats) ms other × Leads other ps after
+-- the pieces lead from a run that stands so to one that stands so: nothing happens but by them
+abbrev pub Leads : Stand → List Piece → Stand → Type 0
+Leads stand [] after = after ≡ stand
+Leads stand (Said r ∷ ps) after = Leads stand ps after
+Leads stand (Did when times end ms other ∷ ps) after = DoesTimes when times end stand ms other × Leads other ps after
+Leads stand (Undone ms other ∷ ps) after = Makes (at_start stand.clock (map fresh stand.seats)) ms other × Leads other ps after
 
--- the text of pieces, from these supervisors on: of each move the lines of those of its orders that are told
-abbrev pub pieces_text : List Seated → List Piece → List ℕ
-pieces_text seats [] = []
-pieces_text seats (Moved m ∷ ps) = move_text m ++ pieces_text (slice_set seats m.place (seat_after m)) ps
-pieces_text seats (Said r ∷ ps) = remark_text r seats ++ pieces_text seats ps
-pieces_text seats (Undone ms other ∷ ps) = pieces_text other ps
+-- the text of pieces, of a run that stands so before them: of each move the lines of those of its orders that are told
+abbrev pub pieces_text : Stand → List Piece → List ℕ
+pieces_text stand [] = []
+pieces_text stand (Said r ∷ ps) = remark_text r stand ++ pieces_text stand ps
+pieces_text stand (Did when times end ms other ∷ ps) = story ms ++ pieces_text other ps
+pieces_text stand (Undone ms other ∷ ps) = pieces_text other ps
 
 -- the run went on so, and its pieces were put behind the text, in order: no move of the supervisors is left out
-pub record Adds (old new : List Seated) (before after : List ℕ) : Type 0 where
+pub record Adds (old new : Stand) (before after : List ℕ) : Type 0 where
   pub pieces : List Piece
   pub lead : Leads old pieces new
   pub text : after ≡ before ++ pieces_text old pieces

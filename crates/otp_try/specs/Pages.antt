@@ -6,7 +6,8 @@ use Rattle.otp_rules.specs.declared.event.Kind.TheVariants as kind
 use Rattle.otp_sim.specs.Devices.{AppendsPart}
 use Rattle.otp_try.specs.Page.{Adds, Leads, Piece, pieces_text}
 use Rattle.otp_remarks.specs.Summaries.{IsSummary}
-use Rattle.otp_trial.specs.Played.{IsPlanted, Seated, TellsFirst}
+use Rattle.otp_trial.specs.Played.{IsPlanted, Seated, Stand, TellsFirst, at_start}
+use Rattle.otp_trial.specs.declared.clock.Clock.{Clock}
 use Rattle.otp_try.specs.declared.early.EarlyEnd.{EarlyEnd}
 use Rattle.otp_try.specs.declared.early.EarlyEnd.TheVariants as early
 use Rattle.otp_try.specs.declared.play.TryEnd.{TryEnd}
@@ -17,12 +18,12 @@ use Rattle.otp_try.specs.declared.settings.Shows.{Shows}
 use Rattle.otp_try.specs.declared.settings.Shows.TheVariants as shows
 
 -- whole pieces were put on the page: all of what was done, or, where it went wrong, the pieces of a beginning of it
-abbrev pub AddsTo : {T E : Type 0} → Result T E → List Seated → List Seated → List ℕ → List ℕ → Type 0
+abbrev pub AddsTo : {T E : Type 0} → Result T E → Stand → Stand → List ℕ → List ℕ → Type 0
 AddsTo (Ok _) old new before after = Adds old new before after
-AddsTo (Err _) old new before after = (stood : List Seated) × Adds old stood before after
+AddsTo (Err _) old new before after = (stood : Stand) × Adds old stood before after
 
 -- the run went on so: its pieces were put on the page in order, and of the page's text some is written, and the rest is left
-pub record Wrote (old new : List Seated) (page left : List ℕ) (before now : Option (List ℕ)) : Type 0 where
+pub record Wrote (old new : Stand) (page left : List ℕ) (before now : Option (List ℕ)) : Type 0 where
   pub pieces : List Piece
   pub lead : Leads old pieces new
   pub written : List ℕ
@@ -30,16 +31,16 @@ pub record Wrote (old new : List Seated) (page left : List ℕ) (before now : Op
   pub text : written ++ left ≡ page ++ pieces_text old pieces
 
 -- of such a text a beginning is written, since the writer failed
-pub record WrotePart (old : List Seated) (page : List ℕ) (before now : Option (List ℕ)) : Type 0 where
+pub record WrotePart (old : Stand) (page : List ℕ) (before now : Option (List ℕ)) : Type 0 where
   pub pieces : List Piece
-  pub stood : List Seated
+  pub stood : Stand
   pub lead : Leads old pieces stood
   pub part : AppendsPart before now (page ++ pieces_text old pieces)
 
 -- how far a run came that ended early
-abbrev pub StopsSo : EarlyEnd → List Seated → List ℕ → List ℕ → Option (List ℕ) → Option (List ℕ) → Type 0
+abbrev pub StopsSo : EarlyEnd → Stand → List ℕ → List ℕ → Option (List ℕ) → Option (List ℕ) → Type 0
 StopsSo early.OutputFailed old page left before now = WrotePart old page before now
-StopsSo _ old page left before now = (stood : List Seated) × Wrote old stood page left before now
+StopsSo _ old page left before now = (stood : Stand) × Wrote old stood page left before now
 
 -- how such a run is said to end
 unfoldable pub end_of : EarlyEnd → TryEnd
@@ -50,22 +51,22 @@ end_of early.InputFailed = InputFailed
 end_of early.OutputFailed = OutputFailed
 end_of early.OutOfMemory = OutOfMemory
 
-abbrev pub Ran : {T : Type 0} → Result T EarlyEnd → List Seated → List Seated → List ℕ → List ℕ → Option (List ℕ) → Option (List ℕ) → Type 0
+abbrev pub Ran : {T : Type 0} → Result T EarlyEnd → Stand → Stand → List ℕ → List ℕ → Option (List ℕ) → Option (List ℕ) → Type 0
 Ran (Ok _) old new page left before now = Wrote old new page left before now
 Ran (Err end) old new page left before now = StopsSo end old page left before now
 
 -- behind pieces without a move a summary was put on the page, of the supervisors as they stand
-pub record Closing (seats : List Seated) (before after : List ℕ) : Type 0 where
+pub record Closing (stand : Stand) (before after : List ℕ) : Type 0 where
   pub middle : List ℕ
-  pub adds : Adds seats seats before middle
+  pub adds : Adds stand stand before middle
   pub summary : List ℕ
-  pub sums : IsSummary seats summary
+  pub sums : IsSummary stand summary
   pub text : after ≡ middle ++ summary
 
 -- a run was summed up; or, where that went wrong, whole pieces were put on the page
-abbrev pub SumsUp : {T E : Type 0} → Result T E → List Seated → List ℕ → List ℕ → Type 0
-SumsUp (Ok _) seats before after = Closing seats before after
-SumsUp (Err _) seats before after = (stood : List Seated) × Adds seats stood before after
+abbrev pub SumsUp : {T E : Type 0} → Result T E → Stand → List ℕ → List ℕ → Type 0
+SumsUp (Ok _) stand before after = Closing stand before after
+SumsUp (Err _) stand before after = (stood : Stand) × Adds stand stood before after
 
 -- so a run ends that was played to its end
 abbrev pub IsWhole : TryEnd → Type 0
@@ -85,9 +86,9 @@ WritesOut OutputFailed text before now = AppendsPart before now text
 WritesOut _ text before now = ⊥
 
 -- all of the run was written, and behind its last piece how its supervisors stand, where all of its moves have led them
-pub record Concluded (old : List Seated) (page : List ℕ) (before now : Option (List ℕ)) : Type 0 where
+pub record Concluded (old : Stand) (page : List ℕ) (before now : Option (List ℕ)) : Type 0 where
   pub pieces : List Piece
-  pub stood : List Seated
+  pub stood : Stand
   pub lead : Leads old pieces stood
   pub summary : List ℕ
   pub sums : IsSummary stood summary
@@ -96,23 +97,23 @@ pub record Concluded (old : List Seated) (page : List ℕ) (before now : Option 
   pub text : written ≡ page ++ pieces_text old pieces ++ summary
 
 -- a run from these supervisors on ended so, and nothing is left on the page: all its pieces were written, or the writer failed
-abbrev pub Ended : TryEnd → List Seated → List ℕ → Option (List ℕ) → Option (List ℕ) → Type 0
+abbrev pub Ended : TryEnd → Stand → List ℕ → Option (List ℕ) → Option (List ℕ) → Type 0
 Ended Done old page before now = Concluded old page before now
 Ended (ExpectationFailed _) old page before now = Concluded old page before now
 Ended (LeftOut _ _) old page before now = Concluded old page before now
 Ended NothingPlayed old page before now = Concluded old page before now
 Ended OutputFailed old page before now = WrotePart old page before now
-Ended _ old page before now = (stood : List Seated) × Wrote old stood page [] before now
+Ended _ old page before now = (stood : Stand) × Wrote old stood page [] before now
 
 -- where all of a run was played, this text of it is left and so much was written, it ended so
-abbrev pub Concludes : TryEnd → List Seated → List ℕ → Option (List ℕ) → Option (List ℕ) → Type 0
+abbrev pub Concludes : TryEnd → Stand → List ℕ → Option (List ℕ) → Option (List ℕ) → Type 0
 Concludes end trial text between now =
-    (seats : List Seated) (page : List ℕ) (before : Option (List ℕ)) → Wrote seats trial page text before between → Ended end seats page before now
+    (stand : Stand) (page : List ℕ) (before : Option (List ℕ)) → Wrote stand trial page text before between → Ended end stand page before now
 
 -- the same of a run that stopped early
 abbrev pub Closes : EarlyEnd → TryEnd → List ℕ → Option (List ℕ) → Option (List ℕ) → Type 0
 Closes why end text between now =
-    (seats : List Seated) (page : List ℕ) (before : Option (List ℕ)) → StopsSo why seats page text before between → Ended end seats page before now
+    (stand : Stand) (page : List ℕ) (before : Option (List ℕ)) → StopsSo why stand page text before between → Ended end stand page before now
 
 -- whether all orders are told: where a script is drawn, or little is to be told, the ends of supervisors alone are
 abbrev pub tells_orders : Writer → Shows → Bool
@@ -141,9 +142,10 @@ Unopened _ before now = ⊥
 pub record Played (end : TryEnd) (tree : Tree) (tells : Bool) (before now : Option (List ℕ)) : Type 0 where
   pub planted : List Seated
   pub is : IsPlanted tells tree planted
-  pub opened : List Seated
+  pub opened : Stand
   pub opening : List ℕ
-  pub opens : TellsFirst 0 (kind.Opened 0) planted opened [] opening
+  pub clock : Clock
+  pub opens : TellsFirst 0 (kind.Opened 0) (at_start clock planted) opened [] opening
   pub ended : Ended end opened opening before now
 
 -- a tree was tried: what is written is such a run

@@ -2,7 +2,7 @@
 
 ghost use Rattle.std.specs.Prelude.{List};
 ghost use Rattle.otp_try.specs.Pages.{Closes, Concludes, Ended, IsWhole, SumsUp, WritesOut};
-ghost use Rattle.otp_trial.specs.Played.{Seated};
+ghost use Rattle.otp_trial.specs.Played.{Stand};
 
 use crate::early::EarlyEnd;
 use crate::play::{Play, TryEnd, Writer};
@@ -116,7 +116,7 @@ impl Play {
 
     /// The end of a run that ended early: what is not drawn is drawn where there is memory, and all that is told is written.
     fn write_last<W: Output>(&mut self, end: EarlyEnd, output: &mut W) -> TryEnd
-        ensures { (seats : List Seated) → Ended result seats self.old.page.items (W.seen output.old).bytes (W.seen output.new).bytes }
+        ensures { (stand : Stand) → Ended result stand self.old.page.items (W.seen output.old).bytes (W.seen output.new).bytes }
     {
         let _drawn = self.draw();
         let Ok(()) = self.hand_out(output) else {

@@ -2,7 +2,7 @@
 
 ghost use Rattle.std.specs.Prelude.{List, [], ◌≡◌, ◌≤◌, IfOk, OnOk, length, vec_len};
 ghost use Rattle.otp_try.specs.Pages.{AddsTo, Ran};
-ghost use Rattle.otp_trial.specs.Played.{Seated};
+ghost use Rattle.otp_trial.specs.Played.{Stand};
 
 use crate::early::EarlyEnd;
 use crate::play::{Play, Writer};
@@ -234,7 +234,7 @@ impl Play {
 
     /// What is on the page is written, and gone from it.
     pub(crate) fn hand_out<W: Output>(&mut self, output: &mut W) -> Result<(), EarlyEnd>
-        ensures ran { (seats : List Seated) → Ran result seats seats self.old.page.items self.new.page.items (W.seen output.old).bytes (W.seen output.new).bytes }
+        ensures ran { (stand : Stand) → Ran result stand stand self.old.page.items self.new.page.items (W.seen output.old).bytes (W.seen output.new).bytes }
         ensures empty { OnOk result (self.new.page.items ≡ []) }
         ensures same { self.new.trial ≡ self.old.trial }
     {
@@ -247,7 +247,7 @@ impl Play {
 
     /// What is on the page is written, if it is much.
     fn hand_out_much<W: Output>(&mut self, output: &mut W) -> Result<(), EarlyEnd>
-        ensures ran { (seats : List Seated) → Ran result seats seats self.old.page.items self.new.page.items (W.seen output.old).bytes (W.seen output.new).bytes }
+        ensures ran { (stand : Stand) → Ran result stand stand self.old.page.items self.new.page.items (W.seen output.old).bytes (W.seen output.new).bytes }
         ensures same { self.new.trial ≡ self.old.trial }
     {
         if self.page.len() < PIECE {

@@ -2,7 +2,7 @@
 
 ghost use Rattle.std.specs.Prelude.{ℕ, List, ◌≡◌, IfOk, OnOk, map};
 ghost use Rattle.otp_try.specs.Pages.{AddsTo};
-ghost use Rattle.otp_trial.specs.Played.{Seated, Tells, fresh};
+ghost use Rattle.otp_trial.specs.Played.{Stand, Tells, at_start, fresh};
 
 use crate::asked::{Asked, read_asked};
 use crate::early::EarlyEnd;
@@ -87,7 +87,7 @@ impl Play {
 
     /// The line that was played last is kept, if it did something.
     fn keep_line(&mut self, line: &[u8]) -> Result<(), EarlyEnd>
-        ensures drawn { (seats : List Seated) → AddsTo result seats seats self.old.page.items self.new.page.items }
+        ensures drawn { (stand : Stand) → AddsTo result stand stand self.old.page.items self.new.page.items }
         ensures same { self.new.trial ≡ self.old.trial }
     {
         match self.keep_done(line) {
@@ -145,7 +145,7 @@ impl Play {
 
     /// A tree like this one, on which the lines that are kept were played from the beginning on.
     fn played_again(&self) -> Result<Trial, Halt>
-        ensures { IfOk result (λ trial. (before : List ℕ) × (after : List ℕ) × Tells (map fresh self.now.trial) trial before after) }
+        ensures { IfOk result (λ trial. (before : List ℕ) × (after : List ℕ) × Tells (at_start self.now.trial.clock (map fresh self.now.trial.seats)) trial before after) }
     {
         let mut sheet = Vec::new(self.alloc);
         let mut trial = self.trial.again(&mut sheet)?;

@@ -4,7 +4,7 @@ ghost use Rattle.std.specs.Prelude.{List, ◌++◌, Bool, ◌≡◌, IfOk, OnOk,
 ghost use Rattle.otp_timeline.specs.declared.moment.Moment.{Moment};
 ghost use Rattle.otp_remarks.specs.Sketched.{drawing};
 ghost use Rattle.otp_try.specs.Pages.{AddsTo, Tries, tells_orders};
-ghost use Rattle.otp_trial.specs.Played.{Seated};
+ghost use Rattle.otp_trial.specs.Played.{Seated, Stand};
 
 use crate::early::EarlyEnd;
 use crate::line::LineEnd;
@@ -124,7 +124,7 @@ impl Play {
 
     /// What is not drawn yet is put on the page, if a picture is wanted.
     pub(crate) fn draw(&mut self) -> Result<(), EarlyEnd>
-        ensures drawn { (seats : List Seated) → AddsTo result seats seats self.old.page.items self.new.page.items }
+        ensures drawn { (stand : Stand) → AddsTo result stand stand self.old.page.items self.new.page.items }
         ensures same { self.new.trial ≡ self.old.trial }
     {
         match self.picture() {
@@ -173,7 +173,7 @@ impl Play {
 
     /// How the supervisors stand after this line is a column of the picture, which is drawn once it is as wide as it may be.
     pub(crate) fn add_moment(&mut self, line: u64) -> Result<(), EarlyEnd>
-        ensures drawn { (seats : List Seated) → AddsTo result seats seats self.old.page.items self.new.page.items }
+        ensures drawn { (stand : Stand) → AddsTo result stand stand self.old.page.items self.new.page.items }
         ensures same { self.new.trial ≡ self.old.trial }
     {
         match self.keep_moment(line) {
@@ -184,7 +184,7 @@ impl Play {
 
     /// What is not drawn yet is put on the page, if the picture is as wide as it may be.
     fn draw_full(&mut self, is_full: bool) -> Result<(), EarlyEnd>
-        ensures drawn { (seats : List Seated) → AddsTo result seats seats self.old.page.items self.new.page.items }
+        ensures drawn { (stand : Stand) → AddsTo result stand stand self.old.page.items self.new.page.items }
         ensures same { self.new.trial ≡ self.old.trial }
     {
         if is_full { self.draw() } else { Ok(()) }

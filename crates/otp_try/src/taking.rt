@@ -3,7 +3,7 @@
 ghost use Rattle.std.specs.Prelude.{List, ◌≡◌, OnOk};
 ghost use Rattle.otp_try.specs.Page.{Adds};
 ghost use Rattle.otp_try.specs.Pages.{AddsTo};
-ghost use Rattle.otp_trial.specs.Played.{Seated};
+ghost use Rattle.otp_trial.specs.Played.{Stand};
 
 use crate::early::EarlyEnd;
 use crate::line::{Line, LineEnd};
@@ -114,7 +114,7 @@ impl Play {
 
     /// The end of a line, or of the run.
     fn end_step(&mut self, step: Step<'_>, end: LineEnd) -> Result<(), EarlyEnd>
-        ensures drawn { (seats : List Seated) → AddsTo result seats seats self.old.page.items self.new.page.items }
+        ensures drawn { (stand : Stand) → AddsTo result stand stand self.old.page.items self.new.page.items }
         ensures same { self.new.trial ≡ self.old.trial }
     {
         match end {
@@ -128,7 +128,7 @@ impl Play {
 
     /// The end of a line that expected what is not so: the first of them is kept.
     fn end_unmet(&mut self, step: Step<'_>) -> Result<(), EarlyEnd>
-        ensures drawn { (seats : List Seated) → AddsTo result seats seats self.old.page.items self.new.page.items }
+        ensures drawn { (stand : Stand) → AddsTo result stand stand self.old.page.items self.new.page.items }
         ensures same { self.new.trial ≡ self.old.trial }
     {
         self.is_played = true;
@@ -140,7 +140,7 @@ impl Play {
 
     /// The end of a line of a log that could do nothing: the first of them is kept.
     fn end_left_out(&mut self, step: Step<'_>, why: ActionEnd) -> Result<(), EarlyEnd>
-        ensures drawn { (seats : List Seated) → AddsTo result seats seats self.old.page.items self.new.page.items }
+        ensures drawn { (stand : Stand) → AddsTo result stand stand self.old.page.items self.new.page.items }
         ensures same { self.new.trial ≡ self.old.trial }
     {
         if self.left_out.is_none() {
@@ -151,7 +151,7 @@ impl Play {
 
     /// The end of a line that did something, unless it says nothing.
     fn end_done(&mut self, step: Step<'_>) -> Result<(), EarlyEnd>
-        ensures drawn { (seats : List Seated) → AddsTo result seats seats self.old.page.items self.new.page.items }
+        ensures drawn { (stand : Stand) → AddsTo result stand stand self.old.page.items self.new.page.items }
         ensures same { self.new.trial ≡ self.old.trial }
     {
         self.is_done = !is_silent(step);
@@ -161,7 +161,7 @@ impl Play {
 
     /// How the supervisors stand after a line is a column of the picture, unless the line says nothing.
     fn end_taken(&mut self, step: Step<'_>) -> Result<(), EarlyEnd>
-        ensures drawn { (seats : List Seated) → AddsTo result seats seats self.old.page.items self.new.page.items }
+        ensures drawn { (stand : Stand) → AddsTo result stand stand self.old.page.items self.new.page.items }
         ensures same { self.new.trial ≡ self.old.trial }
     {
         if is_silent(step) {

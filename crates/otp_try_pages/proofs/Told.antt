@@ -4,11 +4,10 @@ use Rattle.std.proofs.Common.{◌∙◌, ap}
 use Rattle.otp_account.specs.declared.account.Account.{Account}
 use Rattle.otp_trial.specs.Played.{Seated}
 use Rattle.otp_remarks.specs.Verdict.{whole_verdict}
-use Rattle.otp_trial.specs.declared.clock.Clock.{Clock}
 use Rattle.otp_try_pages.specs.Objects.{TellsRun, is_played, run_text}
 use Rattle.otp_try_pages.specs.Timeline.{TellsPage, timeline_page}
 
-pub told : (name : List ℕ) (account : Account) (seats : List Seated) (running slice : List Bool) (before text : List ℕ) → seats ≡ account.trial
+pub told : (name : List ℕ) (account : Account) (seats : List Seated) (running slice : List Bool) (before text : List ℕ) → seats ≡ account.trial.seats
     → ((others : List Bool) × (running ≡ true ∷ others)) → slice ≡ running → before ≡ [] → text ≡ before ++ run_text name account seats slice
     → TellsRun name account text
 told name account seats running slice before text seats_are (others, running_are) same empty is = (
@@ -16,22 +15,19 @@ told name account seats running slice before text seats_are (others, running_are
   is
       ∙ ap (λ (b : List ℕ). b ++ run_text name account seats slice) empty
       ∙ ap (λ (ss : List Seated). run_text name account ss slice) seats_are
-      ∙ ap (λ (rs : List Bool). run_text name account account.trial rs) (same ∙ running_are),
+      ∙ ap (λ (rs : List Bool). run_text name account account.trial.seats rs) (same ∙ running_are),
 )
 
 -- a run was told as a page with its verdict
-pub paged : (name : List ℕ) (account : Account) (seats : List Seated) (played : Bool) (by : Clock) (others : List Bool) (none verdict slice before page : List ℕ)
-    → seats ≡ account.trial → played ≡ is_played account.end → none ≡ [] → verdict ≡ none ++ whole_verdict played by account.trial (true ∷ others)
+pub paged : (name : List ℕ) (account : Account) (seats : List Seated) (played : Bool) (others : List Bool) (none verdict slice before page : List ℕ)
+    → seats ≡ account.trial.seats → played ≡ is_played account.end → none ≡ [] → verdict ≡ none ++ whole_verdict played account.trial.clock account.trial.seats (true ∷ others)
     → slice ≡ verdict → before ≡ [] → page ≡ before ++ timeline_page name seats account slice → TellsPage name account page
-paged name account seats played by others none verdict slice before page seats_are played_is empty judged same fresh is = (
-  by,
-  (
-    others,
-    is
-        ∙ ap (λ (b : List ℕ). b ++ timeline_page name seats account slice) fresh
-        ∙ ap (λ (ss : List Seated). timeline_page name ss account slice) seats_are
-        ∙ ap (λ (v : List ℕ). timeline_page name account.trial account v)
-        (same ∙ judged ∙ ap (λ (n : List ℕ). n ++ whole_verdict played by account.trial (true ∷ others)) empty
-        ∙ ap (λ (b : Bool). whole_verdict b by account.trial (true ∷ others)) played_is),
-  ),
+paged name account seats played others none verdict slice before page seats_are played_is empty judged same fresh is = (
+  others,
+  is
+      ∙ ap (λ (b : List ℕ). b ++ timeline_page name seats account slice) fresh
+      ∙ ap (λ (ss : List Seated). timeline_page name ss account slice) seats_are
+      ∙ ap (λ (v : List ℕ). timeline_page name account.trial.seats account v)
+      (same ∙ judged ∙ ap (λ (n : List ℕ). n ++ whole_verdict played account.trial.clock account.trial.seats (true ∷ others)) empty
+      ∙ ap (λ (b : Bool). whole_verdict b account.trial.clock account.trial.seats (true ∷ others)) played_is),
 )

@@ -209,4 +209,4 @@ run_text name account seats running =
 
 -- a run is told so; the root has a process
 abbrev pub TellsRun : List ℕ → Account → List ℕ → Type 0
-TellsRun name account text = (others : List Bool) × (text ≡ run_text name account account.trial (true ∷ others))
+TellsRun name account text = (others : List Bool) × (text ≡ run_text name account account.trial.seats (true ∷ others))

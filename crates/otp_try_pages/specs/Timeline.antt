@@ -16,7 +16,6 @@ use Rattle.otp_telling.specs.declared.strain.Strain.{Strain}
 use Rattle.otp_trial.specs.declared.trial.ActionEnd.{ActionEnd}
 use Rattle.otp_trial.specs.declared.trial.ActionEnd.TheVariants as taken
 use Rattle.otp_remarks.specs.Verdict.{whole_verdict}
-use Rattle.otp_trial.specs.declared.clock.Clock.{Clock}
 use Rattle.otp_try_pages.specs.Cells.{cells_html, greatest}
 use Rattle.otp_try_pages.specs.Objects.{is_played}
 use Rattle.otp_try_pages.specs.Orders.{is_end}
@@ -112,5 +111,5 @@ timeline_page name seats account verdict =
 -- a page tells a run so; the root has a process
 abbrev pub TellsPage : List ℕ → Account → List ℕ → Type 0
 TellsPage name account page =
-    (by : Clock) × ((others : List Bool)
-    × (page ≡ timeline_page name account.trial account (whole_verdict (is_played account.end) by account.trial (true ∷ others))))
+    (others : List Bool)
+    × (page ≡ timeline_page name account.trial.seats account (whole_verdict (is_played account.end) account.trial.clock account.trial.seats (true ∷ others)))

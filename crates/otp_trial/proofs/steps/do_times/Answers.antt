@@ -1,5 +1,6 @@
-use Rattle.otp_trial.proofs.Tellings.{tells-then}
+use Rattle.otp_trial.proofs.Doings.{times_told}
 use Rattle.otp_trial.proofs.steps.do_times.Goals as goal
 
-pub returns : goal.returns
-returns c = tells-then c.args.trial.now c.do_step.new.trial c.do_others.new.trial c.args.out.now.items c.do_step.new.out.items c.do_others.new.out.items c.in_ok-first.ensures c.in_ok-last.ensures
+pub returns-clause-told : goal.returns-clause-told
+returns-clause-told c =
+    times_told c.do_each.result c.args.step.when c.args.step.times c.args.trial.now c.do_each.new.trial c.args.out.now.items c.do_each.new.out.items c.do_each.ensures

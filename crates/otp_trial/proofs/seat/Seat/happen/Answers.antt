@@ -56,9 +56,10 @@ returns c =
     ∙ ap (λ (s : State). strained before_it c.args.time c.args.kind old.base.flags (last_stamps s.flags.intensity s.stamps) after.effects) stepped
     ∙ ap (λ (xs : List Effect). strained before_it c.args.time c.args.kind old.base.flags (last_stamps next.flags.intensity next.stamps) xs) orders in
     let now : Seated = record { path = path; tells = tells; base = after.base; history = after.history; strain = then } in
-    let P : Seated → Type 0 = λ p. Happens c.args.kind p now c.args.out.now.items c.tell.new.out.items in
+    let P : Seated → Type 0 = λ p. Happens c.args.time c.args.kind p now c.args.out.now.items c.tell.new.out.items in
     subst P c.self.view_is (
       event,
+      refl,
       refl,
       ap (λ (b : State). record { path = path; tells = tells; base = b; history = after.history; strain = then }) base
           ∙ ap (λ (h : List Event). record { path = path; tells = tells; base = old.base; history = h; strain = then }) longer

@@ -11,7 +11,7 @@ returns-clause-told c =
     OnOk r (Tells c.args.self.now c.settle.new.self c.args.out.now.items c.settle.new.out.items)) [
       | Ok _ ↦ λ later. tells-then c.args.self.now c.happen.new.self c.settle.new.self c.args.out.now.items c.happen.new.out.items c.settle.new.out.items c.in_ok-happen.ensures.told later
       | Err _ ↦ λ x. x
-    ]) c.settle.ensures
+    ]) c.settle.ensures.told
 
 pub returns-clause-first : goal.returns-clause-first
 returns-clause-first c =
@@ -20,7 +20,7 @@ returns-clause-first c =
     OnOk r (Begins c.args.place c.args.kind c.args.self.now c.settle.new.self)) [
       | Ok _ ↦ λ later. begins-then c.args.place c.args.kind c.args.self.now c.happen.new.self c.settle.new.self c.happen.new.out.items c.settle.new.out.items c.in_ok-happen.ensures.first later
       | Err _ ↦ λ x. x
-    ]) c.settle.ensures
+    ]) c.settle.ensures.told
 
 pub returns-clause-begins : goal.returns-clause-begins
 returns-clause-begins c =
@@ -29,4 +29,4 @@ returns-clause-begins c =
     OnOk r (TellsFirst c.args.place c.args.kind c.args.self.now c.settle.new.self c.args.out.now.items c.settle.new.out.items)) [
       | Ok _ ↦ λ later. first-then c.args.place c.args.kind c.args.self.now c.happen.new.self c.settle.new.self c.args.out.now.items c.happen.new.out.items c.settle.new.out.items c.in_ok-happen.ensures.begins later
       | Err _ ↦ λ x. x
-    ]) c.settle.ensures
+    ]) c.settle.ensures.told

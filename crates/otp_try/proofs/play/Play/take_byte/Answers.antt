@@ -1,11 +1,10 @@
-use Rattle.std.proofs.Common.{List}
-use Rattle.otp_trial.specs.Played.{Seated}
+use Rattle.otp_trial.specs.Played.{Stand}
 use Rattle.otp_try.proofs.Pages.{ran_adds, still_ran, stops_adds, wrote_adds}
 use Rattle.otp_try.proofs.play.Play.take_byte.Goals as goal
 
 pub returns-in-Ok : goal.returns-in-Ok
 returns-in-Ok g c =
-    let b : List Seated = c.take_line.new.self.trial in
+    let b : Stand = c.take_line.new.self.trial in
     still_ran c.hand_out_much.result c.args.self.now.trial b c.hand_out_much.new.self.trial c.args.self.now.page.items c.take_line.new.self.page.items c.hand_out_much.new.self.page.items
     (g.W.Output.seen c.args.output.now).bytes (g.W.Output.seen c.args.output.now).bytes (g.W.Output.seen c.hand_out_much.new.output).bytes
     (wrote_adds c.args.self.now.trial b c.args.self.now.page.items c.take_line.new.self.page.items (g.W.Output.seen c.args.output.now).bytes c.in-Ok.ensures) c.hand_out_much.ensures.same (c.hand_out_much.ensures.ran b)

@@ -1,4 +1,4 @@
-use Rattle.std.proofs.Common.{List, ap, refl}
+use Rattle.std.proofs.Common.{◌∙◌, ℕ, List, ap, refl}
 use Rattle.otp_try.specs.Page.{remark_text}
 use Rattle.otp_try.specs.Page.Remark.{Farewell, Fault, Help, Legend, Prompt, Welcome}
 use Rattle.otp_trial.specs.Played.{Seated}
@@ -26,7 +26,9 @@ pub returns-in-Prompt : goal.returns-in-Prompt
 unfolding remark_text
 returns-in-Prompt c =
     some_remark c.write_prompt.result c.args.trial.now c.args.out.now.items c.write_prompt.new.out.items (prompt_text c.seats.result.now c.now.result c.next_time.result c.waits.result)
-    (Prompt c.now.result c.next_time.result c.waits.result) (ap (λ (s : List Seated). prompt_text s c.now.result c.next_time.result c.waits.result) c.seats.ensures) c.write_prompt.ensures
+    (Prompt c.next_time.result c.waits.result)
+    (ap (λ (s : List Seated). prompt_text s c.now.result c.next_time.result c.waits.result) c.seats.ensures
+    ∙ ap (λ (time : ℕ). prompt_text c.args.trial.now.seats time c.next_time.result c.waits.result) c.now.ensures.value) c.write_prompt.ensures
 
 pub returns-in-Farewell : goal.returns-in-Farewell
 unfolding remark_text
