@@ -10,12 +10,12 @@ use Rattle.otp_driver.specs.declared.changing.Unchanged.{Unchanged}
 -- there are as many supervisors as were planted
 pub members_stay : (olds : List Member) (origins : List (Option ℕ)) (number : ℕ) (ms : List Member) → length (members_from olds origins number ms) ≡ length ms
 members_stay olds origins number [] = refl
-members_stay olds origins number (m ∷ ms) = ap (λ (n : ℕ). n + 1) (members_stay olds origins (number + 1) ms)
+members_stay olds origins number (m ∷ ms) = ap suc (members_stay olds origins (number + 1) ms)
 
 -- and as many links
 pub links_stay : (olds : List Link) (origins : List (Option ℕ)) (number : ℕ) (ls : List Link) → length (links_from olds origins number ls) ≡ length ls
 links_stay olds origins number [] = refl
-links_stay olds origins number (l ∷ ls) = ap (λ (n : ℕ). n + 1) (links_stay olds origins (number + 1) ls)
+links_stay olds origins number (l ∷ ls) = ap suc (links_stay olds origins (number + 1) ls)
 
 same_parent : (old : Option Link) (l : Link) → (link_on old l).parent ≡ l.parent
 same_parent None l = refl

@@ -15,7 +15,7 @@ use Rattle.otp_driver.specs.declared.order.What.{What}
 use Rattle.otp_driver.specs.declared.route.Route.{Route}
 use Rattle.otp_driver.specs.declared.route.Route.TheVariants.{Outside}
 use Rattle.otp_driver.specs.Orders.{what_of}
-use Rattle.otp_file.specs.Trees.{Table, Tree, tables_of}
+use Rattle.otp_file.specs.Trees.{Table, Tree}
 use Rattle.otp_driven.specs.Members.{unopened}
 use Rattle.otp_driver.specs.Changed.{Changes, changed_from, origins_of}
 use Rattle.otp_driver.specs.Opened.{ArePlanted, IsPlanted}

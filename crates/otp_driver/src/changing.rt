@@ -1,9 +1,10 @@
 //! A tree goes on under another tree file.
 
 ghost use Rattle.std.specs.Prelude.{◌≡◌, ◌<◌, ◌⊎◌, ℕ, IfErr, IfNone, IfOk, IfSome, None, OnErr, OnOk, Some, false, length, option_map, position, true};
+ghost use Rattle.std.specs.List.{list_any};
 ghost use Rattle.otp_driven.specs.declared.fault.ChangeRefusal.TheVariants.{OutOfMemory};
 ghost use Rattle.otp_rules.specs.Progress.{process_number};
-ghost use Rattle.otp_driver.specs.Changed.{Changes, GoesOnAs, IsHeld, IsHeldAt, IsHeldFrom, IsUntied, MayGoOnAs, MayGoOnFrom, RefusesChange, are_same, at_origin, changed_from, child_named, is_kept, is_link_named, is_link_untied, is_untied, is_untied_row, link_on, links_from, member_on, members_from, origin_after, origin_at, origins_of, stay_fault, stay_fault_at};
+ghost use Rattle.otp_driver.specs.Changed.{Changes, GoesOnAs, IsHeld, IsHeldAt, IsHeldFrom, IsUntied, MayGoOnAs, MayGoOnFrom, RefusesChange, are_same, at_origin, changed_from, child_named, has_untied_row, is_kept, is_link_named, is_link_untied, is_untied, is_untied_row, link_on, links_from, member_on, members_from, origin_after, origin_at, origins_of, stay_fault, stay_fault_at};
 
 use crate::driver::Driver;
 use otp_driven::link::{find_process, find_row, nested_of};
@@ -139,7 +140,8 @@ fn members_on(
     let mut list = Vec::new(alloc);
     for supervisor in planted {
         list.reserve(1)?;
-        let new = member_on(alloc, olds, origin_at(origins, list.len()), supervisor)?;
+        let place = list.as_slice().len();
+        let new = member_on(alloc, olds, origin_at(origins, place), supervisor)?;
         list.push_reserved(new);
     }
     Ok(list)
@@ -241,6 +243,23 @@ fn is_untied_row(links: &[Link], place: usize, row: &Row) -> bool
     }
 }
 
+/// Whether one of these children of the supervisor at this place has such a process.
+fn are_untied(links: &[Link], place: usize, rows: &[Row]) -> bool
+    ensures { result ≡ list_any (is_untied_row links.now place) rows.now }
+{
+    rows.iter().any(|row| is_untied_row(links, place, row))
+}
+
+/// Whether a child of the supervisor at this place has such a process.
+fn has_untied_row(links: &[Link], place: usize, supervisor: Option<&Supervisor>) -> bool
+    ensures { result ≡ has_untied_row links.now place (option_map (λ m. m.now) supervisor.entry) }
+{
+    match supervisor {
+        None => false,
+        Some(supervisor) => are_untied(links, place, supervisor.rows()),
+    }
+}
+
 impl Driver {
     /// Why the supervisor at this place may not go, if it is none that is kept.
     #[tactic(auto, unfolding(crate::specs::Changed::stay_fault_at))]
@@ -287,16 +306,8 @@ impl Driver {
     fn is_untied(&self, place: usize) -> bool
         ensures { result ≡ is_untied self.now place }
     {
-        let links = self.links.as_slice();
-        if let Some(supervisor) = self.supervisors.get(place)
-            && supervisor
-                .rows()
-                .iter()
-                .any(|row| is_untied_row(links, place, row))
-        {
-            return true;
-        }
-        self.is_link_untied(place, self.links.get(place))
+        let has_row = has_untied_row(self.links.as_slice(), place, self.supervisors.get(place));
+        has_row || self.is_link_untied(place, self.links.get(place))
     }
 
     /// The place of a supervisor that isn't tied so.
