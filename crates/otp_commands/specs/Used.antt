@@ -67,18 +67,23 @@ abbrev pub IsReplayAs : Option Format → Bor (List ℕ) → List ℕ → Bool �
 IsReplayAs None log text is_listed name ending file old new = IsReplay log text is_listed name ending file old new
 IsReplayAs (Some format) log text is_listed name ending file old new = IsForeignReplay format log text is_listed name ending file old new
 
+-- a log was replayed as what it is; or memory was refused
+abbrev pub IsReplayOfLog : Bor (List ℕ) → List ℕ → Bool → List ℕ → ProgramEnd → List ℕ → Written → Written → Type 0
+IsReplayOfLog log text is_listed name ending file old new =
+    ((ending ≡ OutOfMemory) × (new ≡ old)) ⊎ IsReplayAs (log_format text) log text is_listed name ending file old new
+
 -- the file of this name says no tree, or memory was refused
 abbrev pub IsWithoutTree : List ℕ → ProgramEnd → List ℕ → Type 0
 IsWithoutTree name (NoTree why named) file = (named.now ≡ name) × IsFirstFault why file
 IsWithoutTree name OutOfMemory file = Unit {0}
 IsWithoutTree name _ file = ⊥
 
--- a log was replayed as what it is; or its file of ids can't be read, or the file says no tree
+-- the same, where its file of ids may not be read, and the file may say no tree
 abbrev pub IsReplayOfText : Bor (List ℕ) → List ℕ → Bool → List ℕ → ProgramEnd → List ℕ → Written → Written → Type 0
 IsReplayOfText log text is_listed name ending file old new =
     ((ending ≡ FileNotRead) × (new ≡ old)) ⊎ ((ending ≡ OutOfMemory) × (new ≡ old))
     ⊎ ((new ≡ old) × IsWithoutTree name ending file)
-    ⊎ IsReplayAs (log_format text) log text is_listed name ending file old new
+    ⊎ IsReplayOfLog log text is_listed name ending file old new
 
 -- the log of this name was replayed, of which the same is known; or it can't be read
 abbrev pub IsReplayOf : (List ℕ → Type 0) → Bor (List ℕ) → Bool → List ℕ → ProgramEnd → List ℕ → Written → Written → Type 0

@@ -1,7 +1,7 @@
 //! `replay`: the log of a file is read, also one of another program, and what it tells is played on a tree.
 
 ghost use Rattle.std.specs.Prelude.{◌≤◌, false, IfErr};
-ghost use Rattle.otp_commands.specs.Used.{IsReplayBehind, IsReplayBy, IsReplayOf, IsReplayOfText, IsWithoutTree};
+ghost use Rattle.otp_commands.specs.Used.{IsReplayBehind, IsReplayBy, IsReplayOf, IsReplayOfLog, IsReplayOfText, IsWithoutTree};
 ghost use Rattle.otp_exit.specs.Told.{TellsFirst};
 
 use otp_cli::LogReading;
@@ -83,10 +83,30 @@ fn replay_text<'a, W: Output>(
     ensures { IsReplayOfText log.entry text.now replaying.is_listed name.now
         result file.now (W.seen output.old) (W.seen output.new) }
 {
-    let tree = match tree_of(alloc, file, name) {
-        Ok(tree) => tree,
-        Err(ending) => return ending,
-    };
+    match tree_of(alloc, file, name) {
+        Ok(tree) => replay_on(
+            alloc, tree, name, file, log, text, ids, is_strict, replaying, output,
+        ),
+        Err(ending) => ending,
+    }
+}
+
+/// Plays a log that was read on a tree, as what it is.
+fn replay_on<'a, W: Output>(
+    alloc: Global,
+    tree: TreeSpec,
+    name: &'a str,
+    file: &[u8],
+    log: &'a str,
+    text: &[u8],
+    ids: &[u8],
+    is_strict: bool,
+    replaying: Replaying,
+    output: &mut W,
+) -> ProgramEnd<'a>
+    ensures { IsReplayOfLog log.entry text.now replaying.is_listed name.now
+        result file.now (W.seen output.old) (W.seen output.new) }
+{
     let words = LogWords {
         name: log,
         ids,
