@@ -46,7 +46,7 @@ last_line text None is = one_part (λ byte. byte == 10) text (sym is)
 last_line text (Some end) is = tt
 
 length_more : (x : List ℕ) (xs : List (List ℕ)) → length (x ∷ xs) ≡ length xs + 1
-length_more x xs = grind arith
+length_more x xs = omega arith
 
 -- a text has as many ends of lines as lines, but for the last
 count_cut : (p : ℕ → Bool) (text : List ℕ) (end : ℕ) → position p text ≡ Some end → count_by p text ≡ count_by p (drop (end + 1) text) + 1
@@ -54,13 +54,13 @@ count_cut p text end e =
     let all : length (slice_split p text) ≡ count_by p text + 1 = length-slice_split p text in
     let others : length (slice_split p (drop (end + 1) text)) ≡ count_by p (drop (end + 1) text) + 1 = length-slice_split p (drop (end + 1) text) in
     let cut : length (slice_split p text) ≡ length (slice_split p (drop (end + 1) text)) + 1 =
-    ap length (first_cut p text end e) ∙ length_more (take end text) (slice_split p (drop (end + 1) text)) in
+    ap (λ (l : List (List ℕ)). length l) (first_cut p text end e) ∙ length_more (take end text) (slice_split p (drop (end + 1) text)) in
     omega arith
 
 count_none : (p : ℕ → Bool) (text : List ℕ) → position p text ≡ None → count_by p text ≡ 0
 count_none p text e =
     let all : length (slice_split p text) ≡ count_by p text + 1 = length-slice_split p text in
-    let one : length (slice_split p text) ≡ 1 = ap length (one_part p text e) in
+    let one : length (slice_split p text) ≡ 1 = ap (λ (l : List (List ℕ)). length l) (one_part p text e) in
     omega arith
 
 pub first_end : (text : List ℕ) (found : Option ℕ) → found ≡ position (λ byte. byte == 10) text
@@ -75,13 +75,18 @@ no_end text None is = count_none (λ byte. byte == 10) text (sym is)
 no_end text (Some end) is = tt
 
 -- a byte more
+abbrev one_if : Bool → ℕ
+one_if b = cond b 1 0
+
+and_none : (n k : ℕ) → k ≡ 0 → n + k ≡ n
+and_none n k e = omega arith
+
 pub end_more : (text : List ℕ) → ends_in (text ++ 10 ∷ []) ≡ ends_in text + 1
 unfolding ends_in
-end_more text = sum_by_push (λ (byte : ℕ). cond (byte == 10) 1 0) text 10
+end_more text = sum_by_push (λ (byte : ℕ). one_if (byte == 10)) text 10
 
 pub byte_more : (text : List ℕ) (byte : ℕ) → (byte == 10) ≡ false → ends_in (text ++ byte ∷ []) ≡ ends_in text
 unfolding ends_in
 byte_more text byte other =
-    let more = sum_by_push (λ (byte : ℕ). cond (byte == 10) 1 0) text byte in
-    let none : cond (byte == 10) 1 0 ≡ 0 = ap (λ (b : Bool). cond b 1 0) other in
-    more ∙ (omega (arith, none))
+    sum_by_push (λ (b : ℕ). one_if (b == 10)) text byte
+    ∙ and_none (count_by (λ (b : ℕ). b == 10) text) (one_if (byte == 10)) (ap one_if other)

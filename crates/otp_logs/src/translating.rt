@@ -1,6 +1,6 @@
 //! A log comes in, and lines go out that a replay takes.
 
-ghost use Rattle.std.specs.Prelude.{◌≡◌, ◌×◌, ◌+◌, IfOk, OnOk};
+ghost use Rattle.std.specs.Prelude.{◌≡◌, ◌+◌, IfOk, OnOk};
 ghost use Rattle.otp_logs.specs.Lines.{ends_in};
 ghost use Rattle.otp_logs.specs.Translated.{IsTranslated, SaysFormat, StandsFor, front_text, notes_text};
 
