@@ -5,7 +5,7 @@ ghost use Rattle.otp_logs.specs.Formats.{behind_time, is_daemon_word, is_elixirs
 ghost use Rattle.otp_logs.specs.Translated.{format_text};
 
 use crate::keys::{message_of, value_of};
-use crate::lines::line_end;
+use crate::lines::{behind_line, line_end};
 use crate::times::{behind_clock, behind_moment, fits, is_clock, is_moment};
 use crate::words::{begins, behind, behind_bytes, behind_word, has, is_text, strip, word_of};
 
@@ -245,7 +245,7 @@ pub(crate) fn format_of(text: &[u8]) -> Option<Format>
             Sign::Own => return None,
             Sign::Of(format) => return Some(format),
         }
-        rest = &rest[end + 1..];
+        rest = behind_line(rest, end);
     }
     match sign_of(rest) {
         Sign::Of(format) => Some(format),

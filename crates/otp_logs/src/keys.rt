@@ -1,7 +1,7 @@
 //! Keys of an object of JSON that stands on a line.
 
-ghost use Rattle.std.specs.Prelude.{◌≡◌, ◌≤◌, false, length};
-ghost use Rattle.otp_logs.specs.Objects.{is_key, message_of, or_text, quoted, size_of_text, text_of, value_of};
+ghost use Rattle.std.specs.Prelude.{◌≡◌};
+ghost use Rattle.otp_logs.specs.Objects.{is_key, message_of, or_text, quoted, text_of, value_of};
 ghost use Rattle.otp_logs.specs.Words.{first_tail};
 
 use crate::words::{begins, behind_bytes, is_empty, strip};
@@ -35,35 +35,19 @@ pub(crate) fn value_of<'a>(line: &'a [u8], key: &[u8]) -> &'a [u8]
     strip(behind_bytes(behind, 1))
 }
 
-/// How many bytes stand before the quote that closes a text: behind a backslash another byte stands for itself.
-fn size_of_text(text: &[u8]) -> usize
-    ensures size { result ≡ size_of_text false text.now }
-    ensures limit { result ≤ length text.now }
-{
-    let mut is_escaped = false;
-    for place in 0..text.len() {
-        if !is_escaped && text[place] == b'"' {
-            return place;
-        }
-        is_escaped = !is_escaped && text[place] == b'\\';
-    }
-    text.len()
-}
-
-/// The text that a value is; nothing where it is none.
+/// What stands behind the quote that opens a text; nothing where a value is none.
 #[tactic(auto, unfolding(crate::specs::Objects::quoted))]
 fn quoted(value: &[u8]) -> &[u8]
     ensures { result.now ≡ quoted value.now }
 {
     if begins(value, b"\"") {
-        let text = behind_bytes(value, 1);
-        &text[..size_of_text(text)]
+        behind_bytes(value, 1)
     } else {
         &[]
     }
 }
 
-/// The text of a key, as it is written; nothing where its value is none.
+/// A line from the text of a key on, as it is written; nothing where its value is none.
 #[tactic(auto, unfolding(crate::specs::Objects::text_of))]
 fn text_of<'a>(line: &'a [u8], key: &[u8]) -> &'a [u8]
     ensures { result.now ≡ text_of key.now line.now }
@@ -78,7 +62,7 @@ fn or_text<'a>(first: &'a [u8], second: &'a [u8]) -> &'a [u8]
     if is_empty(first) { second } else { first }
 }
 
-/// What an object says, as the formatters of Erlang's and Elixir's loggers write it.
+/// A line from what an object says on, as the formatters of Erlang's and Elixir's loggers write it.
 #[tactic(auto, unfolding(crate::specs::Objects::message_of))]
 pub(crate) fn message_of(line: &[u8]) -> &[u8]
     ensures { result.now ≡ message_of line.now }

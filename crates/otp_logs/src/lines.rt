@@ -1,6 +1,6 @@
 //! The lines of a text, and of what stands for it.
 
-ghost use Rattle.std.specs.Prelude.{◌≡◌, ◌+◌, ◌<◌, ◌∷◌, ◌==◌, [], IfNone, IfSome, OnOk, drop, length, position, take};
+ghost use Rattle.std.specs.Prelude.{◌≡◌, ◌+◌, ◌<◌, ◌∷◌, ◌==◌, [], IfNone, IfSome, OnOk, drop, false, length, position, take};
 ghost use Rattle.otp_logs.specs.Lines.{ends_in, lines_of};
 
 use std::alloc::AllocError;
@@ -24,6 +24,15 @@ pub(crate) fn line_end(text: &[u8]) -> Option<usize>
     find_end(text)
 }
 
+/// What stands behind the line that ends at this place.
+pub(crate) fn behind_line(text: &[u8], end: usize) -> &[u8]
+    requires { end < length text.now }
+    ensures rest { result.now ≡ drop (end + 1) text.now }
+    ensures shorter { length result.now < length text.now }
+{
+    &text[end + 1..]
+}
+
 /// Ends a line.
 #[tactic(auto, using(crate::proofs::Cuts::end_more))]
 pub(crate) fn put_end(out: &mut Vec<u8>) -> Result<(), AllocError>
@@ -32,16 +41,19 @@ pub(crate) fn put_end(out: &mut Vec<u8>) -> Result<(), AllocError>
     out.push(b'\n').map_err(|_| AllocError)
 }
 
-/// Appends a byte of a line: a blank where it is the end of one.
+/// A byte of a line: a blank for the end of one.
+fn inner_of(byte: u8) -> u8
+    ensures { (result == 10) ≡ false }
+{
+    if byte == b'\n' { b' ' } else { byte }
+}
+
+/// Appends a byte of a line.
 #[tactic(auto, using(crate::proofs::Cuts::byte_more))]
 fn put_inner(byte: u8, out: &mut Vec<u8>) -> Result<(), AllocError>
     ensures { OnOk result (ends_in out.new.items ≡ ends_in out.old.items) }
 {
-    if byte == b'\n' {
-        out.push(b' ').map_err(|_| AllocError)
-    } else {
-        out.push(byte).map_err(|_| AllocError)
-    }
+    out.push(inner_of(byte)).map_err(|_| AllocError)
 }
 
 /// Appends the bytes of a line, which isn't ended.

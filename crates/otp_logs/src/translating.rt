@@ -7,7 +7,7 @@ ghost use Rattle.otp_logs.specs.Translated.{IsTranslated, SaysFormat, StandsFor,
 use crate::daemon::{self, Daemon};
 use crate::format::{Format, format_of, is_plain};
 use crate::journal::Journal;
-use crate::lines::{append_line, line_end, put_end};
+use crate::lines::{append_line, behind_line, line_end, put_end};
 use crate::{elixir, objects, otp, supervisord};
 use otp_file::TreeSpec;
 use otp_foreign::{Range, line_at};
@@ -171,7 +171,8 @@ fn put_ended(
     ensures { OnOk result (ends_in out.new.items ≡ ends_in out.old.items + 1) }
 {
     put_line(reader, work, line, is_read, keeps_others, out)?;
-    put_end(out)
+    put_end(out)?;
+    Ok(())
 }
 
 /// Writes what stands for all lines of a text, of which those from this place on are read.
@@ -194,13 +195,14 @@ fn put_lines(
         };
         put_ended(reader, work, line, start >= begin, keeps_others, out)?;
         start = line.end.saturating_add(1);
-        rest = &rest[end + 1..];
+        rest = behind_line(rest, end);
     }
     let line = Range {
         start,
         end: text.len(),
     };
-    put_line(reader, work, line, start >= begin, keeps_others, out)
+    put_line(reader, work, line, start >= begin, keeps_others, out)?;
+    Ok(())
 }
 
 /// The lines that stand for those of a text.
@@ -337,5 +339,6 @@ pub fn translate_log(
     let Some(format) = format_of(text) else {
         return Ok(None);
     };
-    Ok(Some(read_log(alloc, tree, format, text, words)?))
+    let found = read_log(alloc, tree, format, text, words)?;
+    Ok(Some(found))
 }
