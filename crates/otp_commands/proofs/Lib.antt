@@ -1,4 +1,5 @@
 pub mod Checked
 pub mod Joined
+mod Replayed
 pub mod Untold
 pub mod Written

@@ -1,8 +1,13 @@
 -- What was done with a tree file, by how the program ended (own).
-use Rattle.std.specs.Prelude.{◌≡◌, ◌⊎◌, ℕ, ◌<◌, ◌==◌, Bool, true, false, List, Option, Some, None, count_by}
+use Rattle.std.specs.Prelude.{◌≡◌, ◌⊎◌, ℕ, ◌<◌, Bool, true, false, List, Option, Some, None}
 use Rattle.std.specs.Io.KnownBytes.{Appends}
 use Rattle.std.specs.Borrow.{Bor}
 use Rattle.otp_sim.specs.Devices.{AppendsPart, Devices, Written}
+use Rattle.otp_check.specs.Checks.{IsFirstFault}
+use Rattle.otp_logs.specs.Formats.{log_format}
+use Rattle.otp_logs.specs.Translated.{SaysFormat, StandsFor}
+use Rattle.otp_logs.specs.declared.format.Format.{Format}
+use Rattle.otp_logs.specs.declared.translating.Translation.{Translation}
 use Rattle.otp_questions.specs.Compared.{IsCompared}
 use Rattle.otp_costs.specs.declared.alike.Grain.{Grain}
 use Rattle.otp_costs.specs.declared.pick.Pick.{Pick}
@@ -16,7 +21,7 @@ use Rattle.otp_questions.specs.Tried.{IsTrial}
 use Rattle.otp_exit.specs.Devices.{Files, IsUnread}
 use Rattle.otp_exit.specs.Told.{IsSmall}
 use Rattle.otp_exit.specs.declared.ending.ProgramEnd.{ProgramEnd}
-use Rattle.otp_exit.specs.declared.ending.ProgramEnd.TheVariants.{FileNotRead, OutOfMemory, OutputFailed}
+use Rattle.otp_exit.specs.declared.ending.ProgramEnd.TheVariants.{FileNotRead, NoTree, OutOfMemory, OutputFailed}
 use Rattle.otp_cli.specs.declared.words.Form.{Form}
 use Rattle.otp_cli.specs.declared.words.Form.TheVariants as form
 use Rattle.otp_cli.specs.declared.words.Page.{Page}
@@ -45,16 +50,40 @@ IsReplayBehind notes log lines is_listed name ending file old new =
     ((ending ≡ OutputFailed) × (AppendsPart old.bytes new.bytes notes × (old.failures < new.failures)))
     ⊎ ((middle : Written) × (Appends old.bytes middle.bytes notes × IsReplay log lines is_listed name ending file middle new))
 
--- as many lines stand for these
-abbrev pub StandsFor : List ℕ → List ℕ → Type 0
-StandsFor lines text = count_by (λ byte. byte == 10) lines ≡ count_by (λ byte. byte == 10) text
+-- a log of another program, of this format, was replayed by as many lines as it has, behind notes that say the format
+abbrev pub IsForeignReplay : Format → Bor (List ℕ) → List ℕ → Bool → List ℕ → ProgramEnd → List ℕ → Written → Written → Type 0
+IsForeignReplay format log text is_listed name ending file old new =
+    (lines : List ℕ) × (StandsFor lines text
+    × ((notes : List ℕ) × (SaysFormat log.now format notes × IsReplayBehind notes log lines is_listed name ending file old new)))
 
--- a log was replayed as it stands, or by the lines that stand for its lines; or its file of ids can't be read
+-- a log was replayed by what stands for it; as it stands, where that is nothing
+abbrev pub IsReplayBy : Option Translation → Bor (List ℕ) → List ℕ → Bool → List ℕ → ProgramEnd → List ℕ → Written → Written → Type 0
+IsReplayBy None log text is_listed name ending file old new = IsReplay log text is_listed name ending file old new
+IsReplayBy (Some found) log text is_listed name ending file old new =
+    IsReplayBehind found.notes.items log found.lines.items is_listed name ending file old new
+
+-- a log that is of this format was replayed; one that is of none, as it stands
+abbrev pub IsReplayAs : Option Format → Bor (List ℕ) → List ℕ → Bool → List ℕ → ProgramEnd → List ℕ → Written → Written → Type 0
+IsReplayAs None log text is_listed name ending file old new = IsReplay log text is_listed name ending file old new
+IsReplayAs (Some format) log text is_listed name ending file old new = IsForeignReplay format log text is_listed name ending file old new
+
+-- a log was replayed as what it is; or memory was refused
+abbrev pub IsReplayOfLog : Bor (List ℕ) → List ℕ → Bool → List ℕ → ProgramEnd → List ℕ → Written → Written → Type 0
+IsReplayOfLog log text is_listed name ending file old new =
+    ((ending ≡ OutOfMemory) × (new ≡ old)) ⊎ IsReplayAs (log_format text) log text is_listed name ending file old new
+
+-- the file of this name says no tree, or memory was refused
+abbrev pub IsWithoutTree : List ℕ → ProgramEnd → List ℕ → Type 0
+IsWithoutTree name (NoTree why named) file = (named.now ≡ name) × IsFirstFault why file
+IsWithoutTree name OutOfMemory file = Unit {0}
+IsWithoutTree name _ file = ⊥
+
+-- the same, where its file of ids may not be read, and the file may say no tree
 abbrev pub IsReplayOfText : Bor (List ℕ) → List ℕ → Bool → List ℕ → ProgramEnd → List ℕ → Written → Written → Type 0
 IsReplayOfText log text is_listed name ending file old new =
     ((ending ≡ FileNotRead) × (new ≡ old)) ⊎ ((ending ≡ OutOfMemory) × (new ≡ old))
-    ⊎ IsReplay log text is_listed name ending file old new
-    ⊎ ((lines : List ℕ) × (StandsFor lines text × ((notes : List ℕ) × IsReplayBehind notes log lines is_listed name ending file old new)))
+    ⊎ ((new ≡ old) × IsWithoutTree name ending file)
+    ⊎ IsReplayOfLog log text is_listed name ending file old new
 
 -- the log of this name was replayed, of which the same is known; or it can't be read
 abbrev pub IsReplayOf : (List ℕ → Type 0) → Bor (List ℕ) → Bool → List ℕ → ProgramEnd → List ℕ → Written → Written → Type 0

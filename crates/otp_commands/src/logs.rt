@@ -1,12 +1,12 @@
 //! `replay`: the log of a file is read, also one of another program, and what it tells is played on a tree.
 
-ghost use Rattle.std.specs.Prelude.{◌≡◌, ◌==◌, ◌≤◌, count_by, false, IfOk, IfSome};
-ghost use Rattle.otp_commands.specs.Used.{IsReplayBehind, IsReplayOf, IsReplayOfText};
+ghost use Rattle.std.specs.Prelude.{◌≤◌, false, IfErr};
+ghost use Rattle.otp_commands.specs.Used.{IsReplayBehind, IsReplayBy, IsReplayOf, IsReplayOfLog, IsReplayOfText, IsWithoutTree};
 ghost use Rattle.otp_exit.specs.Told.{TellsFirst};
 
 use otp_cli::LogReading;
 use otp_exit::{ProgramEnd, TreeFiles, read_log, read_tree_file};
-use otp_file::read_tree;
+use otp_file::{TreeSpec, read_tree};
 use otp_logs::{LogWords, Translation, translate_log};
 use otp_questions::{Log, replay_file};
 use otp_replay::Replaying;
@@ -83,19 +83,74 @@ fn replay_text<'a, W: Output>(
     ensures { IsReplayOfText log.entry text.now replaying.is_listed name.now
         result file.now (W.seen output.old) (W.seen output.new) }
 {
+    match tree_of(alloc, file, name) {
+        Ok(tree) => replay_on(
+            alloc, tree, name, file, log, text, ids, is_strict, replaying, output,
+        ),
+        Err(ending) => ending,
+    }
+}
+
+/// Plays a log that was read on a tree, as what it is.
+fn replay_on<'a, W: Output>(
+    alloc: Global,
+    tree: TreeSpec,
+    name: &'a str,
+    file: &[u8],
+    log: &'a str,
+    text: &[u8],
+    ids: &[u8],
+    is_strict: bool,
+    replaying: Replaying,
+    output: &mut W,
+) -> ProgramEnd<'a>
+    ensures { IsReplayOfLog log.entry text.now replaying.is_listed name.now
+        result file.now (W.seen output.old) (W.seen output.new) }
+{
     let words = LogWords {
         name: log,
         ids,
         is_strict,
         keeps_others: replaying.is_listed,
     };
-    match translated(alloc, file, text, words) {
+    let translated = translate_log(alloc, &tree, text, words);
+    drop(tree);
+    match translated {
+        Ok(found) => replay_as(alloc, name, file, log, text, found, replaying, output),
         Err(_) => ProgramEnd::OutOfMemory,
-        Ok(None) => {
+    }
+}
+
+/// The tree that a file says; or how the program ends that has none.
+fn tree_of<'a>(alloc: Global, file: &[u8], name: &'a str) -> Result<TreeSpec, ProgramEnd<'a>>
+    ensures { IfErr result (λ ending. IsWithoutTree name.now ending file.now) }
+{
+    match read_tree(alloc, file) {
+        Ok(tree) => Ok(tree),
+        Err(fault) => Err(ProgramEnd::of_no_tree(fault, name)),
+    }
+}
+
+/// Plays a log by what stands for it; as it stands, where that is nothing.
+fn replay_as<'a, W: Output>(
+    alloc: Global,
+    name: &'a str,
+    file: &[u8],
+    log: &'a str,
+    text: &[u8],
+    found: Option<Translation>,
+    replaying: Replaying,
+    output: &mut W,
+) -> ProgramEnd<'a>
+    ensures { IsReplayBy found log.entry text.now replaying.is_listed name.now
+        result file.now (W.seen output.old) (W.seen output.new) }
+{
+    match found {
+        None => {
             let read = Log { name: log, text };
             replay_file(alloc, name, file, read, replaying, output)
         }
-        Ok(Some(translation)) => {
+        Some(translation) => {
             let ending = replay_behind(
                 alloc,
                 name,
@@ -108,26 +163,6 @@ fn replay_text<'a, W: Output>(
             );
             drop(translation);
             ending
-        }
-    }
-}
-
-/// What stands for a log of another program. None where the file says no tree, which a replay tells.
-fn translated(
-    alloc: Global,
-    file: &[u8],
-    text: &[u8],
-    words: LogWords<'_>,
-) -> Result<Option<Translation>, AllocError>
-    ensures { IfOk result (λ found. IfSome found (λ translation.
-        count_by (λ byte. byte == 10) translation.lines.items ≡ count_by (λ byte. byte == 10) text.now)) }
-{
-    match read_tree(alloc, file) {
-        Err(_) => Ok(None),
-        Ok(tree) => {
-            let translation = translate_log(alloc, &tree, text, words);
-            drop(tree);
-            translation
         }
     }
 }

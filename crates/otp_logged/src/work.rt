@@ -1,4 +1,4 @@
-//! What was written so far for a log.
+//! What a log says of children, line by line: what stands for a line, counts and remarks.
 
 use crate::ids::{Ids, Said};
 use crate::known::{Child, Known, Meant, id_of};
@@ -63,7 +63,7 @@ pub(crate) struct Counted {
     pub plain: u64,
 }
 
-/// A log, and what was written for it.
+/// A log, and what was read of it.
 #[derive(Drop)]
 pub struct Work<'a> {
     /// What the log is called, before each remark.
@@ -75,9 +75,9 @@ pub struct Work<'a> {
     is_strict: bool,
     /// The log calls children by their paths.
     has_paths: bool,
-    pub lines: Vec<u8>,
+    /// What stands for the line that is read.
+    pub line: Vec<u8>,
     remarks: Vec<u8>,
-    notes: Vec<u8>,
     counted: Counted,
     /// The number of the line that is read.
     pub number: u64,
@@ -93,7 +93,7 @@ pub struct Work<'a> {
 }
 
 impl<'a> Work<'a> {
-    /// Nothing was written yet.
+    /// Nothing was read yet.
     pub fn new(
         alloc: Global,
         name: &'a str,
@@ -110,9 +110,8 @@ impl<'a> Work<'a> {
             ids,
             is_strict,
             has_paths,
-            lines: Vec::new(alloc),
+            line: Vec::new(alloc),
             remarks: Vec::new(alloc),
-            notes: Vec::new(alloc),
             counted: Counted {
                 played: 0,
                 left_out: 0,
@@ -129,18 +128,11 @@ impl<'a> Work<'a> {
         }
     }
 
-    /// The lines and the notes.
-    pub fn into_parts(self) -> (Vec<u8>, Vec<u8>) {
-        let Work { lines, notes, .. } = self;
-        (lines, notes)
-    }
-
-    /// Writes which format the log has, what was counted, and the remarks.
-    pub fn note(&mut self, front: &str, format: &str) -> Result<(), AllocError> {
-        write_head(self.name, front, format, &mut self.notes)?;
-        write_counts(self.counted, &mut self.notes)?;
-        self.notes.extend_from_slice(b"\n")?;
-        self.notes.extend_from_slice(self.remarks.as_slice())
+    /// Appends what was counted, and the remarks.
+    pub fn tell(&self, out: &mut Vec<u8>) -> Result<(), AllocError> {
+        write_counts(self.counted, out)?;
+        out.extend_from_slice(b"\n")?;
+        out.extend_from_slice(self.remarks.as_slice())
     }
 
     /// Remarks on the line that is read: what is wrong with a name.
@@ -280,16 +272,16 @@ impl<'a> Work<'a> {
             return self.remark("its path is too long: ", called.name, "");
         }
         let time = self.advance(moment);
-        time.write(&mut self.lines)?;
-        self.lines.extend_from_slice(match event {
+        time.write(&mut self.line)?;
+        self.line.extend_from_slice(match event {
             Event::Up => b" up ",
             Event::End if is_quiet(self.reason.as_slice()) => b" exit ",
             Event::End => b" crash ",
         })?;
-        self.lines.extend_from_slice(self.path.as_slice())?;
+        self.line.extend_from_slice(self.path.as_slice())?;
         if !event.is_up() {
-            write_byte(b' ', &mut self.lines)?;
-            self.lines.extend_from_slice(self.reason.as_slice())?;
+            write_byte(b' ', &mut self.line)?;
+            self.line.extend_from_slice(self.reason.as_slice())?;
         }
         self.counted.played = self.counted.played.saturating_add(1);
         self.is_put = true;
@@ -302,22 +294,13 @@ impl<'a> Work<'a> {
             return Ok(());
         }
         let time = self.advance(moment);
-        time.write(&mut self.lines)?;
-        self.lines.extend_from_slice(b" stop")?;
+        time.write(&mut self.line)?;
+        self.line.extend_from_slice(b" stop")?;
         self.counted.played = self.counted.played.saturating_add(1);
         self.is_put = true;
         self.is_stopped = true;
         Ok(())
     }
-}
-
-/// Appends what a log is called, and its format.
-fn write_head(name: &str, front: &str, format: &str, out: &mut Vec<u8>) -> Result<(), AllocError> {
-    out.extend_from_slice(name.as_bytes())?;
-    out.extend_from_slice(b": ")?;
-    out.extend_from_slice(front.as_bytes())?;
-    out.extend_from_slice(format.as_bytes())?;
-    out.extend_from_slice(b": ")
 }
 
 /// Appends what was counted.

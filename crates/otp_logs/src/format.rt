@@ -1,11 +1,13 @@
 //! Which program wrote a log.
 
-use crate::objects::message_of;
-use otp_foreign::{Range, byte_of, line_at};
-use otp_logged::{
-    behind_word, first_word, from_place, is_at, is_text, line_behind, place_behind, place_of_bytes,
-    read_clock, read_moment, stripped, text_of,
-};
+ghost use Rattle.std.specs.Prelude.{◌≡◌};
+ghost use Rattle.otp_logs.specs.Formats.{behind_time, is_daemon_word, is_elixirs, is_level, is_of_daemon, is_of_elixir, is_otps, is_own_word, is_plain, is_seconds, is_supervisords, log_format, sign_behind, sign_of, sign_of_object};
+ghost use Rattle.otp_logs.specs.Translated.{format_text};
+
+use crate::keys::{message_of, value_of};
+use crate::lines::{behind_line, line_end};
+use crate::times::{behind_clock, behind_moment, fits, is_clock, is_moment};
+use crate::words::{begins, behind, behind_bytes, behind_word, has, is_text, strip, word_of};
 
 /// Which program wrote a log, and how.
 #[derive(Clone, Copy)]
@@ -29,7 +31,10 @@ pub enum Format {
 
 impl Format {
     /// What the log is.
-    pub fn text(self) -> &'static str {
+    #[tactic(auto, unfolding(crate::specs::Translated::format_text))]
+    pub fn text(self) -> &'static str
+        ensures { result.now ≡ format_text self }
+    {
         match self {
             Format::Otp => "reports of OTP's supervisors",
             Format::Elixir => "a log of Elixir",
@@ -52,86 +57,107 @@ enum Sign {
     Of(Format),
 }
 
-/// Whether a word says what happened in a line that a replay takes.
-fn is_own_word(word: &[u8]) -> bool {
+/// Whether a word says what happened in a line that a replay takes as it stands.
+#[tactic(auto, unfolding(crate::specs::Formats::is_own_word))]
+fn is_own_word(word: &[u8]) -> bool
+    ensures { result ≡ is_own_word word.now }
+{
     is_text(word, b"crash")
         || is_text(word, b"exit")
         || is_text(word, b"up")
         || is_text(word, b"stop")
 }
 
-/// Whether Elixir says so of a child, from the first word of a message on.
-fn is_elixirs(text: &[u8], message: Range) -> bool {
-    if is_at(text, message.start, b"Child ") {
-        return place_of_bytes(text, message, b" of Supervisor ").is_some();
+/// What stands behind a time, which is a date and a time of the day, or else a word.
+#[tactic(auto, unfolding(crate::specs::Formats::behind_time))]
+fn behind_time(words: &[u8]) -> &[u8]
+    ensures { result.now ≡ behind_time words.now }
+{
+    if is_moment(words) {
+        strip(behind_moment(words))
+    } else {
+        behind_word(words)
     }
-    is_at(text, message.start, b"GenServer ")
-        && place_of_bytes(text, message, b" terminating").is_some()
+}
+
+/// Whether a line reads as one of a log that a replay takes as it stands: behind its time it begins so.
+#[tactic(auto, unfolding(crate::specs::Formats::is_plain))]
+pub(crate) fn is_plain(line: &[u8]) -> bool
+    ensures { result ≡ is_plain line.now }
+{
+    is_own_word(word_of(behind_time(strip(line))))
+}
+
+/// Whether Elixir says so of a child.
+#[tactic(auto, unfolding(crate::specs::Formats::is_elixirs))]
+fn is_elixirs(message: &[u8]) -> bool
+    ensures { result ≡ is_elixirs message.now }
+{
+    if begins(message, b"Child ") {
+        has(message, b" of Supervisor ")
+    } else {
+        begins(message, b"GenServer ") && has(message, b" terminating")
+    }
 }
 
 /// Whether a supervisor of OTP says so of a child, on one line or several.
-fn is_of_otp(text: &[u8], rest: Range) -> bool {
-    let Some(place) = place_behind(text, rest, b"upervisor: ") else {
-        return false;
-    };
-    let words = from_place(rest, place);
-    place_of_bytes(text, words, b"ontext: ").is_some()
-        || place_of_bytes(text, words, b"tarted: ").is_some()
+#[tactic(auto, unfolding(crate::specs::Formats::is_otps))]
+fn is_otps(text: &[u8]) -> bool
+    ensures { result ≡ is_otps text.now }
+{
+    let words = behind(text, b"upervisor: ");
+    has(words, b"ontext: ") || has(words, b"tarted: ")
 }
 
-/// Whether Erlang or Elixir says so of a child in a message.
-fn is_of_loggers(text: &[u8], message: Range) -> bool {
-    is_elixirs(text, message) || is_of_otp(text, message)
+/// Whether Elixir's Logger writes so of a child, behind the time.
+#[tactic(auto, unfolding(crate::specs::Formats::is_of_elixir))]
+fn is_of_elixir(text: &[u8]) -> bool
+    ensures { result ≡ is_of_elixir text.now }
+{
+    is_elixirs(behind(text, b"] "))
 }
 
-/// What a line says that is an object of JSON.
-fn sign_of_object(text: &[u8], line: Range) -> Sign {
-    if is_at(text, line.start, b"{\"time\":\"")
-        && place_of_bytes(text, line, b",\"ms\":").is_some()
-    {
-        return Sign::Of(Format::DaemonObjects);
-    }
-    if text_of(text, line, b"\"__REALTIME_TIMESTAMP\"").is_some() {
-        return Sign::Of(Format::JournalObjects);
-    }
-    match message_of(text, line) {
-        Some(message) if is_of_loggers(text, message) => Sign::Of(Format::Objects),
-        _ => Sign::Nothing,
-    }
-}
-
-/// Whether supervisord's level stands at a place.
-fn is_level(text: &[u8], place: usize) -> bool {
-    is_at(text, place, b" INFO ")
-        || is_at(text, place, b" WARN ")
-        || is_at(text, place, b" CRIT ")
-        || is_at(text, place, b" DEBG ")
-        || is_at(text, place, b" ERRO ")
-        || is_at(text, place, b" TRAC ")
-        || is_at(text, place, b" BLAT ")
+/// Whether a level of supervisord stands behind a time.
+#[tactic(auto, unfolding(crate::specs::Formats::is_level))]
+fn is_level(text: &[u8]) -> bool
+    ensures { result ≡ is_level text.now }
+{
+    begins(text, b" INFO ")
+        || begins(text, b" WARN ")
+        || begins(text, b" CRIT ")
+        || begins(text, b" DEBG ")
+        || begins(text, b" ERRO ")
+        || begins(text, b" TRAC ")
+        || begins(text, b" BLAT ")
 }
 
 /// Whether supervisord says so, behind its level.
-fn is_of_supervisord(text: &[u8], words: Range) -> bool {
-    is_at(text, words.start, b"spawned: \'")
-        || is_at(text, words.start, b"exited: ")
-        || is_at(text, words.start, b"success: ")
-        || is_at(text, words.start, b"stopped: ")
-        || is_at(text, words.start, b"gave up: ")
-        || is_at(text, words.start, b"received SIG")
-        || is_at(text, words.start, b"supervisord started with pid ")
+#[tactic(auto, unfolding(crate::specs::Formats::is_supervisords))]
+fn is_supervisords(words: &[u8]) -> bool
+    ensures { result ≡ is_supervisords words.now }
+{
+    begins(words, b"spawned: \'")
+        || begins(words, b"exited: ")
+        || begins(words, b"success: ")
+        || begins(words, b"stopped: ")
+        || begins(words, b"gave up: ")
+        || begins(words, b"received SIG")
+        || begins(words, b"supervisord started with pid ")
 }
 
 /// Whether a word is seconds with milliseconds, as `3.211`.
-fn is_seconds(text: &[u8], word: Range) -> bool {
-    let point = word.end.saturating_sub(4);
-    word.end > word.start.saturating_add(4)
-        && byte_of(text, word.start).is_ascii_digit()
-        && byte_of(text, point) == b'.'
+#[tactic(auto, unfolding(crate::specs::Formats::is_seconds))]
+fn is_seconds(word: &[u8]) -> bool
+    ensures { result ≡ is_seconds word.now }
+{
+    fits(word, b"0") && fits(behind_bytes(word, word.len().saturating_sub(4)), b".000")
 }
 
 /// Whether `otp-procs` begins a line so, behind its times.
-fn is_daemon_word(word: &[u8]) -> bool {
+#[tactic(auto, unfolding(crate::specs::Formats::is_daemon_word))]
+fn is_daemon_word(word: &[u8]) -> bool
+    ensures { result ≡ is_daemon_word word.now }
+{
     is_text(word, b"began")
         || is_text(word, b"start")
         || is_text(word, b"up")
@@ -140,82 +166,89 @@ fn is_daemon_word(word: &[u8]) -> bool {
 }
 
 /// Whether `otp-procs` writes so, behind the time: seconds, and what it is.
-fn is_of_daemon(text: &[u8], words: Range) -> bool {
-    is_seconds(text, first_word(text, words))
-        && is_daemon_word(first_word(text, behind_word(text, words)).of(text))
-}
-
-/// Whether Elixir's Logger writes so of a child, behind the time.
-fn is_of_elixir(text: &[u8], rest: Range) -> bool {
-    match place_behind(text, rest, b"] ") {
-        Some(place) => is_elixirs(text, from_place(rest, place)),
-        None => false,
-    }
-}
-
-/// Whether a line reads as one of a log that a replay takes as it stands: behind its time it begins so.
-pub(crate) fn is_plain(text: &[u8], line: Range) -> bool {
-    let words = stripped(text, line);
-    let behind = match read_moment(text, words.start) {
-        Some((_, place)) => stripped(text, from_place(line, place)),
-        None => behind_word(text, words),
-    };
-    is_own_word(first_word(text, behind).of(text))
+#[tactic(auto, unfolding(crate::specs::Formats::is_of_daemon))]
+fn is_of_daemon(words: &[u8]) -> bool
+    ensures { result ≡ is_of_daemon words.now }
+{
+    is_seconds(word_of(words)) && is_daemon_word(word_of(behind_word(words)))
 }
 
 /// What a line says behind a date and a time.
-fn sign_behind(text: &[u8], rest: Range) -> Sign {
-    let words = stripped(text, rest);
-    if is_level(text, rest.start) && is_of_supervisord(text, behind_word(text, words)) {
-        return Sign::Of(Format::Supervisord);
+#[tactic(auto, unfolding(crate::specs::Formats::sign_behind))]
+fn sign_behind(text: &[u8]) -> Sign
+    ensures { result ≡ sign_behind text.now }
+{
+    let words = strip(text);
+    if is_level(text) && is_supervisords(behind_word(words)) {
+        Sign::Of(Format::Supervisord)
+    } else if is_of_daemon(words) {
+        Sign::Of(Format::Daemon)
+    } else if has(text, b" systemd[") {
+        Sign::Of(Format::Journal)
+    } else if is_otps(text) {
+        Sign::Of(Format::Otp)
+    } else if is_of_elixir(text) {
+        Sign::Of(Format::Elixir)
+    } else {
+        Sign::Nothing
     }
-    if is_of_daemon(text, words) {
-        return Sign::Of(Format::Daemon);
+}
+
+/// What a line says that is an object of JSON.
+#[tactic(auto, unfolding(crate::specs::Formats::sign_of_object))]
+fn sign_of_object(line: &[u8]) -> Sign
+    ensures { result ≡ sign_of_object line.now }
+{
+    let message = message_of(line);
+    if begins(line, b"{\"time\":\"") && has(line, b",\"ms\":") {
+        Sign::Of(Format::DaemonObjects)
+    } else if begins(value_of(line, b"\"__REALTIME_TIMESTAMP\""), b"\"") {
+        Sign::Of(Format::JournalObjects)
+    } else if is_elixirs(message) || is_otps(message) {
+        Sign::Of(Format::Objects)
+    } else {
+        Sign::Nothing
     }
-    if place_of_bytes(text, rest, b" systemd[").is_some() {
-        return Sign::Of(Format::Journal);
-    }
-    if is_of_otp(text, rest) {
-        return Sign::Of(Format::Otp);
-    }
-    if is_of_elixir(text, rest) {
-        return Sign::Of(Format::Elixir);
-    }
-    Sign::Nothing
 }
 
 /// What a line says of the format of its log.
-fn sign_of(text: &[u8], line: Range) -> Sign {
-    match byte_of(text, line.start) {
-        b'{' => return sign_of_object(text, line),
-        b'=' if place_of_bytes(text, line, b" REPORT==== ").is_some() => return Sign::Of(
-            Format::Otp,
-        ),
-        b' ' if is_at(text, line.start, b"    supervisor: ") => return Sign::Of(Format::Otp),
-        _ => {}
-    }
-    if is_plain(text, line) {
-        return Sign::Own;
-    }
-    if let Some((_, place)) = read_moment(text, line.start) {
-        return sign_behind(text, from_place(line, place));
-    }
-    match read_clock(text, line.start) {
-        Some((_, place)) if is_of_elixir(text, from_place(line, place)) => Sign::Of(Format::Elixir),
-        _ => Sign::Nothing,
+#[tactic(auto, unfolding(crate::specs::Formats::sign_of))]
+fn sign_of(line: &[u8]) -> Sign
+    ensures { result ≡ sign_of line.now }
+{
+    if begins(line, b"{") {
+        sign_of_object(line)
+    } else if begins(line, b"=") && has(line, b" REPORT==== ") {
+        Sign::Of(Format::Otp)
+    } else if begins(line, b"    supervisor: ") {
+        Sign::Of(Format::Otp)
+    } else if is_plain(line) {
+        Sign::Own
+    } else if is_moment(line) {
+        sign_behind(behind_moment(line))
+    } else if is_clock(line) && is_of_elixir(behind_clock(line)) {
+        Sign::Of(Format::Elixir)
+    } else {
+        Sign::Nothing
     }
 }
 
-/// Which program wrote a log, and the line that says so; none where a replay takes it as it stands, or it isn't known.
-pub(crate) fn format_of(text: &[u8]) -> Option<(Format, Range)> {
-    let mut line = line_at(text, 0);
-    for _ in 0..text.len().saturating_add(1) {
-        match sign_of(text, line) {
+/// Which program wrote a log; none where a replay takes it as it stands, or it isn't known.
+#[tactic(auto, unfolding(crate::specs::Formats::log_format))]
+pub(crate) fn format_of(text: &[u8]) -> Option<Format>
+    ensures { result ≡ log_format text.now }
+{
+    let mut rest = text;
+    while let Some(end) = line_end(rest) {
+        match sign_of(&rest[..end]) {
             Sign::Nothing => {}
             Sign::Own => return None,
-            Sign::Of(format) => return Some((format, line)),
+            Sign::Of(format) => return Some(format),
         }
-        line = line_behind(text, line)?;
+        rest = behind_line(rest, end);
     }
-    None
+    match sign_of(rest) {
+        Sign::Of(format) => Some(format),
+        _ => None,
+    }
 }

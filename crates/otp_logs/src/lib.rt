@@ -9,10 +9,14 @@ mod daemon;
 mod elixir;
 mod format;
 mod journal;
+mod keys;
+mod lines;
 mod objects;
 mod otp;
 mod supervisord;
+mod times;
 mod translating;
+mod words;
 
 pub use format::Format;
 pub use translating::{LogWords, Translation, translate_log};

@@ -1,13 +1,16 @@
 //! A log comes in, and lines go out that a replay takes.
 
-ghost use Rattle.std.specs.Prelude.{◌≡◌, ◌==◌, count_by, IfOk, IfSome};
+ghost use Rattle.std.specs.Prelude.{◌≡◌, ◌+◌, IfOk, OnOk};
+ghost use Rattle.otp_logs.specs.Lines.{ends_in};
+ghost use Rattle.otp_logs.specs.Translated.{IsTranslated, SaysFormat, StandsFor, front_text, notes_text};
 
 use crate::daemon::{self, Daemon};
 use crate::format::{Format, format_of, is_plain};
 use crate::journal::Journal;
+use crate::lines::{append_line, behind_line, line_end, put_end};
 use crate::{elixir, objects, otp, supervisord};
 use otp_file::TreeSpec;
-use otp_foreign::{Range, line_at, write_byte};
+use otp_foreign::{Range, line_at};
 use otp_logged::{Ids, Known, Work, line_behind, place_of_bytes};
 use std::alloc::{AllocError, Global};
 
@@ -82,13 +85,6 @@ impl Reader {
     }
 }
 
-/// How many line ends a text has.
-fn count_ends(text: &[u8]) -> usize
-    ensures { result ≡ count_by (λ byte. byte == 10) text.now }
-{
-    text.iter().filter(|byte| **byte == b'\n').count()
-}
-
 /// All of a text.
 fn all_of(text: &[u8]) -> Range {
     Range {
@@ -122,8 +118,8 @@ fn begin_of(format: Format, text: &[u8]) -> usize {
     begin
 }
 
-/// Writes what stands for a line.
-fn put_line(
+/// Leaves in its place what stands for a line.
+fn take_line(
     reader: &mut Reader,
     work: &mut Work<'_>,
     line: Range,
@@ -131,51 +127,145 @@ fn put_line(
     keeps_others: bool,
 ) -> Result<(), AllocError> {
     work.is_put = false;
+    work.line.clear();
     if is_read {
         reader.take(work, line)?;
     }
     if !work.is_put {
-        if is_plain(work.text, line) {
+        let bytes = line.of(work.text);
+        if is_plain(bytes) {
             // A replay would play it, and another program's log says what happened otherwise.
             work.count_plain();
         } else if keeps_others {
-            work.lines.extend_from_slice(line.of(work.text))?;
+            work.line.extend_from_slice(bytes)?;
         }
     }
     work.number = work.number.saturating_add(1);
     Ok(())
 }
 
-/// Writes what stands for all lines.
-fn put_lines(
+/// Writes what stands for a line, which isn't ended.
+fn put_line(
     reader: &mut Reader,
     work: &mut Work<'_>,
-    begin: usize,
+    line: Range,
+    is_read: bool,
     keeps_others: bool,
-) -> Result<(), AllocError> {
-    let text = work.text;
-    let mut line = line_at(text, 0);
-    for _ in 0..text.len().saturating_add(1) {
-        put_line(reader, work, line, line.start >= begin, keeps_others)?;
-        match line_behind(text, line) {
-            Some(next) => line = next,
-            None => return Ok(()),
-        }
-        write_byte(b'\n', &mut work.lines)?;
-    }
+    out: &mut Vec<u8>,
+) -> Result<(), AllocError>
+    ensures { OnOk result (ends_in out.new.items ≡ ends_in out.old.items) }
+{
+    take_line(reader, work, line, is_read, keeps_others)?;
+    append_line(work.line.as_slice(), out)
+}
+
+/// Writes what stands for a line that is ended.
+fn put_ended(
+    reader: &mut Reader,
+    work: &mut Work<'_>,
+    line: Range,
+    is_read: bool,
+    keeps_others: bool,
+    out: &mut Vec<u8>,
+) -> Result<(), AllocError>
+    ensures { OnOk result (ends_in out.new.items ≡ ends_in out.old.items + 1) }
+{
+    put_line(reader, work, line, is_read, keeps_others, out)?;
+    put_end(out)?;
     Ok(())
 }
 
-/// Reads a log, and writes what is to be told of it.
-fn read_all(
+/// Writes what stands for all lines of a text, of which those from this place on are read.
+fn put_lines(
     reader: &mut Reader,
     work: &mut Work<'_>,
+    text: &[u8],
+    begin: usize,
     keeps_others: bool,
-) -> Result<(), AllocError> {
-    let begin = begin_of(reader.format, work.text);
-    put_lines(reader, work, begin, keeps_others)?;
-    let front = if begin > 0 { "the last run in " } else { "" };
-    work.note(front, reader.format.text())
+    out: &mut Vec<u8>,
+) -> Result<(), AllocError>
+    ensures { OnOk result (ends_in out.new.items ≡ ends_in out.old.items + ends_in text.now) }
+{
+    let mut start: usize = 0;
+    let mut rest = text;
+    while let Some(end) = line_end(rest) {
+        let line = Range {
+            start,
+            end: start.saturating_add(end),
+        };
+        put_ended(reader, work, line, start >= begin, keeps_others, out)?;
+        start = line.end.saturating_add(1);
+        rest = behind_line(rest, end);
+    }
+    let line = Range {
+        start,
+        end: text.len(),
+    };
+    put_line(reader, work, line, start >= begin, keeps_others, out)?;
+    Ok(())
+}
+
+/// The lines that stand for those of a text.
+#[tactic(auto, unfolding(crate::specs::Lines::ends_in))]
+fn make_lines(
+    alloc: Global,
+    reader: &mut Reader,
+    work: &mut Work<'_>,
+    text: &[u8],
+    begin: usize,
+    keeps_others: bool,
+) -> Result<Vec<u8>, AllocError>
+    ensures { IfOk result (λ lines. StandsFor lines.items text.now) }
+{
+    let mut lines = Vec::new(alloc);
+    put_lines(reader, work, text, begin, keeps_others, &mut lines)?;
+    Ok(lines)
+}
+
+/// What is told of a log that has a name and a format, before what was counted.
+#[tactic(auto, unfolding(crate::specs::Translated::front_text))]
+fn front_of(is_last: bool) -> &'static str
+    ensures { result.now ≡ front_text is_last }
+{
+    if is_last { "the last run in " } else { "" }
+}
+
+/// Notes on a log of this name and format, of which this was counted.
+#[tactic(auto, unfolding(crate::specs::Translated::notes_text))]
+fn notes_of(
+    alloc: Global,
+    name: &str,
+    is_last: bool,
+    format: Format,
+    counts: &[u8],
+) -> Result<Vec<u8>, AllocError>
+    ensures { IfOk result (λ notes. notes.items ≡ notes_text name.now is_last format counts.now) }
+{
+    let mut notes = Vec::new(alloc);
+    notes.extend_from_slice(name.as_bytes())?;
+    notes.extend_from_slice(b": ")?;
+    notes.extend_from_slice(front_of(is_last).as_bytes())?;
+    notes.extend_from_slice(format.text().as_bytes())?;
+    notes.extend_from_slice(b": ")?;
+    notes.extend_from_slice(counts)?;
+    Ok(notes)
+}
+
+/// Notes on a log that was read.
+fn make_notes(
+    alloc: Global,
+    work: &Work<'_>,
+    name: &str,
+    is_last: bool,
+    format: Format,
+) -> Result<Vec<u8>, AllocError>
+    ensures { IfOk result (λ notes. SaysFormat name.now format notes.items) }
+{
+    let mut counts = Vec::new(alloc);
+    work.tell(&mut counts)?;
+    let notes = notes_of(alloc, name, is_last, format, counts.as_slice())?;
+    drop(counts);
+    Ok(notes)
 }
 
 /// Reads a log of this format.
@@ -185,13 +275,17 @@ fn read_log(
     format: Format,
     text: &[u8],
     words: LogWords<'_>,
-) -> Result<Translation, AllocError> {
+) -> Result<Translation, AllocError>
+    ensures { IfOk result (λ found. (found.format ≡ format)
+        × (StandsFor found.lines.items text.now × SaysFormat words.entry.name.now format found.notes.items)) }
+{
     let known = Known::of(alloc, tree)?;
     let Ok(ids) = Ids::read(alloc, words.ids) else {
         drop(known);
         return Err(AllocError);
     };
     let has_paths = matches!(format, Format::Daemon | Format::DaemonObjects);
+    let begin = begin_of(format, text);
     let mut work = Work::new(
         alloc,
         words.name,
@@ -202,21 +296,30 @@ fn read_log(
         has_paths,
     );
     let mut reader = Reader::new(alloc, format, text);
-    let read = read_all(&mut reader, &mut work, words.keeps_others);
+    let made = make_lines(
+        alloc,
+        &mut reader,
+        &mut work,
+        text,
+        begin,
+        words.keeps_others,
+    );
     drop(reader);
-    let (lines, notes) = work.into_parts();
-    match read {
-        Ok(()) => Ok(Translation {
-            format,
-            lines,
-            notes,
-        }),
-        Err(_) => {
-            drop(lines);
-            drop(notes);
-            Err(AllocError)
-        }
-    }
+    let Ok(lines) = made else {
+        drop(work);
+        return Err(AllocError);
+    };
+    let told = make_notes(alloc, &work, words.name, begin > 0, format);
+    drop(work);
+    let Ok(notes) = told else {
+        drop(lines);
+        return Err(AllocError);
+    };
+    Ok(Translation {
+        format,
+        lines,
+        notes,
+    })
 }
 
 /// What stands for a log of another program: as many lines, of which each that a replay plays says what the line in its place says,
@@ -231,18 +334,11 @@ pub fn translate_log(
     text: &[u8],
     words: LogWords<'_>,
 ) -> Result<Option<Translation>, AllocError>
-    ensures { IfOk result (λ found. IfSome found (λ translation.
-        count_by (λ byte. byte == 10) translation.lines.items ≡ count_by (λ byte. byte == 10) text.now)) }
+    ensures { IfOk result (λ found. IsTranslated words.entry.name.now text.now found) }
 {
-    let Some((format, _)) = format_of(text) else {
+    let Some(format) = format_of(text) else {
         return Ok(None);
     };
-    let translation = read_log(alloc, tree, format, text, words)?;
-    // That a line stands for each line is seen here, and not argued.
-    if count_ends(translation.lines.as_slice()) == count_ends(text) {
-        Ok(Some(translation))
-    } else {
-        drop(translation);
-        Ok(None)
-    }
+    let found = read_log(alloc, tree, format, text, words)?;
+    Ok(Some(found))
 }
