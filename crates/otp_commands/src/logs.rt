@@ -11,7 +11,7 @@ use otp_logs::{LogWords, Translation, translate_log};
 use otp_questions::{Log, replay_file};
 use otp_replay::Replaying;
 use otp_sim::{Failed, Output, write_all};
-use std::alloc::{AllocError, Global};
+use std::alloc::Global;
 
 /// Plays what the log of this name tells on the tree of a file.
 pub(crate) fn replay_log<'a, F: TreeFiles, W: Output, E: Output>(
