@@ -110,6 +110,73 @@ impl std::error::Error for OpenError {
     }
 }
 
+/// Why a tree doesn't go on under another file. It is then as it was.
+#[derive(Clone, Debug, PartialEq, Eq)]
+#[non_exhaustive]
+pub enum ChangeError {
+    /// The tree file is refused.
+    Refused(TreeFault),
+    /// Orders wait, or children are being started or stopped. Take all orders, and make the call again once nothing is under way.
+    Busy,
+    /// A child that the file doesn't have, or has with a tree or without one where it was otherwise, has a process still: terminate
+    /// it first.
+    Running,
+    /// A supervisor would become a `simple_one_for_one`, or cease to be one, and runs: terminate it first. Of the root it can't be
+    /// done.
+    Turned,
+    /// The file has a start word of two points and a number, as this crate makes them, and the tree has children with numbers of their
+    /// own ([`ChildSpec::tag`](crate::ChildSpec::tag)).
+    Word,
+    /// A period of a draft isn't whole seconds.
+    Period,
+    /// Memory was refused. The same call may be made again.
+    Memory,
+    /// The library answers a status that its header doesn't list for this call: library and crate don't belong together.
+    Unknown(u32),
+}
+
+impl ChangeError {
+    /// What a status says that isn't 0; the fault is one of a file with this text.
+    pub(crate) fn of(status: u32, fault: &RawFault, text: &[u8]) -> Self {
+        match status {
+            sys::MEMORY => ChangeError::Memory,
+            sys::BAD_TREE => ChangeError::Refused(TreeFault::from_raw(fault, text)),
+            sys::BUSY => ChangeError::Busy,
+            sys::RUNNING => ChangeError::Running,
+            sys::TURNED => ChangeError::Turned,
+            status => ChangeError::Unknown(status),
+        }
+    }
+}
+
+impl fmt::Display for ChangeError {
+    fn fmt(&self, f: &mut fmt::Formatter<'_>) -> fmt::Result {
+        match self {
+            ChangeError::Refused(fault) => write!(f, "tree refused: {fault}"),
+            ChangeError::Busy => f.write_str("orders wait, or children are being started or stopped"),
+            ChangeError::Running => f.write_str("a child that is gone, or is of another kind, has a process still"),
+            ChangeError::Turned => {
+                f.write_str("a supervisor that runs can't become simple_one_for_one, nor cease to be one")
+            }
+            ChangeError::Word => {
+                f.write_str("a start word of two points and a number may be another one of the tree's")
+            }
+            ChangeError::Period => f.write_str("a period is whole seconds"),
+            ChangeError::Memory => f.write_str("memory was refused; the call may be made again"),
+            ChangeError::Unknown(status) => write!(f, "the library answers status {status}"),
+        }
+    }
+}
+
+impl std::error::Error for ChangeError {
+    fn source(&self) -> Option<&(dyn std::error::Error + 'static)> {
+        match self {
+            ChangeError::Refused(fault) => Some(fault),
+            _ => None,
+        }
+    }
+}
+
 /// What is wrong in a tree file, and where: the fault for which it is refused, which is the first.
 #[derive(Clone, Debug, PartialEq, Eq)]
 #[non_exhaustive]

@@ -1,8 +1,8 @@
-//! The program that has replaced another one goes on with what that has left: it opens the tree over the processes that run, as a
-//! reload does.
+//! The program that has replaced another one goes on with what that has left: it opens the tree over the processes that run.
 
 use crate::daemon::Daemon;
 use crate::files::Files;
+use crate::handover::reopen::{Opened, Processes, open_over};
 use crate::handover::{Handover, Said};
 use crate::keeper::Kept;
 use crate::live::Live;
@@ -11,9 +11,7 @@ use crate::log::{Class, Record};
 use crate::notify;
 use crate::os;
 use crate::plan::{self, Plan, Plans};
-use crate::reload::exchange::{Opened, Processes, open_over};
 use crate::reload::shape::child_at;
-use crate::reload::steps::Steps;
 use crate::stand_in::Clock;
 use otp_supervision::{Name, Process, ProcessId, Reading, SupervisorId};
 use std::error::Error;
@@ -61,7 +59,7 @@ pub fn read(fd: RawFd, sources: &Sources) -> Result<Resumed, Box<dyn Error>> {
         }
     }
     let reading = Reading::from_millis(left.reading);
-    let opened = open_over(&loaded, &Steps::default(), processes, &loaded.shapes, reading)?;
+    let opened = open_over(&loaded, processes, reading)?;
     Ok(Resumed { left, loaded, opened, plans })
 }
 
