@@ -199,7 +199,9 @@ impl Tree {
         if let Some(watch) = &mut self.watch {
             watch.look(&Sight { handle: &self.handle, tags: &self.tags });
             if self.is_held || !watch.untold.is_empty() {
-                return Err(ChangeError::Busy);
+                let of_order = if self.is_held { SupervisorId::new(self.order.supervisor) } else { SupervisorId::ROOT };
+                let first = watch.untold.front().map_or(of_order, |(supervisor, _)| *supervisor);
+                return Err(ChangeError::Busy(first));
             }
         }
         let mut fault = RawFault::zeroed();

@@ -39,17 +39,18 @@ impl Daemon {
         Ok(())
     }
 
-    /// Temporary children of both trees that have ended: by the rules they are forgotten, and not down.
+    /// Temporary children that have no process, and aren't started: by the rules they are forgotten, and not down.
     fn over(&self, new: &[Shape], steps: &Steps) -> Vec<String> {
         let mut over = Vec::new();
         for (number, old) in self.shapes.iter().enumerate() {
             let (number, found) = (SupervisorId::new(number as u32), new.iter().find(|shape| shape.path == old.path));
             let runs = self.tree.supervisor(number).is_ok_and(|found| found.phase == Phase::Runs);
             let Some(new) = found.filter(|new| runs && !new.is_simple() && !old.is_simple()) else { continue };
-            let there: BTreeSet<Option<Name>> = self.children_of(number).iter().map(|child| child.id).collect();
-            let both = new.children.iter().filter(|child| old.find(child.spec.id).is_some());
-            let ended = both.filter(|child| child.spec.restart == Restart::Temporary);
-            let paths = ended.filter(|child| !there.contains(&Some(child.spec.id))).map(|child| new.path_of(child));
+            let running = self.children_of(number).into_iter().filter(|child| child.number.is_some());
+            let running: BTreeSet<Option<Name>> = running.map(|child| child.id).collect();
+            let temporary = new.children.iter().filter(|child| child.spec.restart == Restart::Temporary);
+            let down = temporary.filter(|child| !running.contains(&Some(child.spec.id)));
+            let paths = down.map(|child| new.path_of(child));
             over.extend(paths.filter(|path| !steps.starts.contains(&Target::Child(path.clone()))));
         }
         over
