@@ -157,6 +157,7 @@ impl Daemon {
                 State::at(Standing::Down, format!("down, start {} in", u64::from(kept.times) + 1), due)
             }
             Some(Waits::Held(times)) => State::new(Standing::Down, format!("held, after {times} ends in a row")),
+            Some(Waits::ForClient) => State::new(Standing::Over, "down, ctl start starts it"),
             None => state_of_child(child, live, last.as_ref()),
         };
         Kid {
