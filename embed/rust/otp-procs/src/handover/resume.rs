@@ -109,6 +109,11 @@ impl Daemon {
         self.text.clone_from(&loaded.files.tree);
         self.take_over(opened, &loaded)?;
         (self.shapes, self.keeper.after) = (loaded.shapes, loaded.needs.after);
+        for process in self.live.values().map(|live| &live.process) {
+            if let Some(id) = process.id {
+                self.keeper.run_on(process.supervisor, id);
+            }
+        }
         if let Some(manager) = &self.manager {
             manager.tell(&format!("READY=1\nSTATUS={} processes are up", self.live.len()));
         }

@@ -44,6 +44,11 @@ impl Side<'_> {
     fn plan_of(&self, child: &Wanted) -> Option<&Plan> {
         self.plans.get(child.spec.start.as_str()).map(Rc::as_ref)
     }
+
+    /// Whether a client starts it.
+    fn is_by_hand(&self, child: &Wanted) -> bool {
+        child.nested.is_none() && self.plan_of(child).is_some_and(|plan| plan.by_hand.is_some())
+    }
 }
 
 /// What is stopped or started.
@@ -131,7 +136,7 @@ impl Walk<'_> {
             }
         }
         for child in new.children.iter().filter(|child| old.find(child.spec.id).is_none()) {
-            self.comes(&new.path_of(child), is_down);
+            self.comes(&new.path_of(child), child, is_down);
         }
     }
 
@@ -154,8 +159,10 @@ impl Walk<'_> {
         self.wanted.insert(Target::Child(path.to_string()));
     }
 
-    fn comes(&mut self, path: &str, is_down: bool) {
-        if is_down {
+    fn comes(&mut self, path: &str, child: &Wanted, is_down: bool) {
+        if self.new.is_by_hand(child) {
+            self.steps.changed.push(line("later", path, "new, and ctl start starts it"));
+        } else if is_down {
             self.steps.changed.push(line("later", path, "new, and starts with its supervisor"));
         } else {
             self.begin(path, "");
@@ -180,7 +187,8 @@ impl Walk<'_> {
         let has_more = !now.is_empty();
         changes.extend(now);
         self.say_now(path, &changes);
-        self.worker(path, &later.join(", "), has_more, is_down);
+        let is_released = self.old.is_by_hand(old) && !self.new.is_by_hand(new);
+        self.worker(path, &later.join(", "), has_more, is_down, is_released);
     }
 
     /// A child becomes one of another kind.
@@ -196,9 +204,10 @@ impl Walk<'_> {
         }
     }
 
-    fn worker(&mut self, path: &str, later: &str, has_more: bool, is_down: bool) {
+    fn worker(&mut self, path: &str, later: &str, has_more: bool, is_down: bool, is_released: bool) {
         let is_running = self.standing.running.contains(path);
-        let is_tried = self.standing.unstarted.contains(path)
+        let is_tried = is_released
+            || self.standing.unstarted.contains(path)
             || (self.standing.failing.contains(path) && (has_more || !later.is_empty()));
         if is_running && !later.is_empty() && self.restarts {
             self.stop(path, "restart", later);
