@@ -466,14 +466,11 @@ fn statuses_of(keys: &Keys<'_>) -> Result<Vec<i32>, BadLine> {
     let Some((place, texts)) = keys.texts("normal_status")? else { return Ok(Vec::new()) };
     let mut statuses = Vec::new();
     for text in texts {
-        match text.parse::<u8>() {
-            Ok(status) => statuses.push(i32::from(status)),
-            Err(_) => {
-                let text =
-                    format!("normal_status has strings with a status, as [\"2\", \"143\"], and {text:?} is none");
-                return keys.bad(place, text);
-            }
-        }
+        let Ok(status) = text.parse::<u8>() else {
+            let text = format!("normal_status has strings with a status, as [\"2\", \"143\"], and {text:?} is none");
+            return keys.bad(place, text);
+        };
+        statuses.push(i32::from(status));
     }
     Ok(statuses)
 }
