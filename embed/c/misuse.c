@@ -43,6 +43,14 @@ static void untouched(void) {
     UNTOUCHED(fault); UNTOUCHED(number); UNTOUCHED(count);
 }
 
+/* Files under which a tree doesn't go on once all of it runs: without the worker, without the pool, and with the worker as a pool. */
+static const char *const others[] = {
+    "[[child]]\nid = \"pool\"\nstart = \"p\"\n[child.tree]\n[[child.tree.child]]\nid = \"b\"\nstart = \"b\"\n",
+    "[[child]]\nid = \"a\"\nstart = \"a\"\n",
+    "[[child]]\nid = \"a\"\nstart = \"a\"\n[child.tree]\n[[child]]\nid = \"pool\"\nstart = \"p\"\n"
+    "[child.tree]\n[[child.tree.child]]\nid = \"b\"\nstart = \"b\"\n"};
+static const uint32_t held[] = {0, 1, 0};      /* by this supervisor */
+
 /* All calls but for otp_open, on a handle that is empty. */
 static void on_an_empty_handle(otp_tree *tree) {
     otp_name id = {1, "a"};
@@ -61,6 +69,7 @@ static void on_an_empty_handle(otp_tree *tree) {
     WANT(OTP_CLOSED, otp_supervisors(tree, &count));
     WANT(OTP_CLOSED, otp_look(tree, 0, &supervisor));
     WANT(OTP_CLOSED, otp_look_child(tree, 0, 0, &child));
+    WANT(OTP_CLOSED, otp_change(tree, text, sizeof text - 1, &fault));
     otp_close(tree);
     untouched();
 }
@@ -133,6 +142,21 @@ static void looks(otp_tree *tree) {
     untouched();
 }
 
+/* What runs isn't lost by another tree file; and a tree goes on under its own. */
+static void changes(otp_tree *tree) {
+    for (int i = 0; i < 3; i++) {
+        WANT(OTP_RUNNING, otp_change(tree, (const uint8_t *)others[i], strlen(others[i]), &fault));
+        if (fault.code != 0 || fault.table != held[i] || fault.text_len == 0) faults++, puts("it isn't told who runs");
+    }
+    WANT(OTP_BAD_TREE, otp_change(tree, (const uint8_t *)"[", 1, &fault));
+    if (fault.code != 10) faults++, puts("the fault of another tree isn't told");
+    fill();
+    WANT(OTP_OK, otp_change(tree, text, sizeof text - 1, &fault));
+    WANT(OTP_NONE, otp_next(tree, &order));
+    UNTOUCHED(fault);
+    UNTOUCHED(order);
+}
+
 int main(void) {
     otp_tree tree = OTP_TREE_INIT;
     on_an_empty_handle(&tree);
@@ -143,15 +167,17 @@ int main(void) {
     fill();
     WANT(OTP_OPEN, otp_open(&tree, text, sizeof text - 1, &fault));
     UNTOUCHED(fault);
+    WANT(OTP_BUSY, otp_change(&tree, text, sizeof text - 1, &fault));
     for (int i = 0; i < 2; i++) {
         WANT(OTP_OK, otp_next(&tree, &order));
+        WANT(OTP_BUSY, otp_change(&tree, text, sizeof text - 1, &fault));
         WANT(OTP_OK, otp_note(&tree, 1, order.supervisor, OTP_NOTE_UP, order.number, 0, none, 0));
     }
     WANT(OTP_OK, otp_next(&tree, &order));
     if (order.kind != OTP_ORDER_READY) faults++, puts("misuse has changed what is ordered");
     /* The pool is process 2 of the root: nobody tells anything of it. */
     WANT(OTP_NESTED, otp_note(&tree, 1, 0, OTP_NOTE_EXIT, 2, OTP_REASON_NORMAL, none, 0));
-    notes(&tree), readings(&tree), calls(&tree), looks(&tree);
+    notes(&tree), readings(&tree), calls(&tree), looks(&tree), changes(&tree);
     otp_close(&tree);
     on_an_empty_handle(&tree);
     return faults != 0;

@@ -26,7 +26,7 @@
  * calls. A call keeps no pointer that it is given.
  *
  * What is answered by a status: everything else. Where a call answers neither OTP_OK nor OTP_NONE, the tree is as it was, and
- * what a call would have written is not written (otp_open's fault apart). After OTP_MEMORY the same call may be made again.
+ * what a call would have written is not written (the fault of otp_open and otp_change apart). After OTP_MEMORY the same call may be made again.
  */
 #ifndef OTP_H
 #define OTP_H
@@ -71,9 +71,13 @@ enum otp_status {
     OTP_BAD_KIND = 8,            /* the kind, or a number that stands for a word, is none of those listed */
     OTP_BAD_TEXT = 9,            /* a reason's text is not 1 to 64 bytes from 0x21 to 0x7E */
     OTP_BAD_NAME = 10,           /* a name says more than 32 bytes */
-    OTP_BAD_TREE = 11,           /* otp_open: the tree file is refused; the fault is told */
+    OTP_BAD_TREE = 11,           /* otp_open, otp_change: the tree file is refused; the fault is told */
     OTP_NO_SUPERVISOR = 12,      /* no supervisor has this number */
-    OTP_NESTED = 13              /* otp_note: the process is a supervisor of the tree itself, of which nobody tells from outside */
+    OTP_NESTED = 13,             /* otp_note: the process is a supervisor of the tree itself, of which nobody tells from outside */
+    OTP_BUSY = 14,               /* otp_change: orders wait, or children are starting or stopping: make the call again later */
+    OTP_RUNNING = 15,            /* otp_change: a child or a supervisor that isn't in the new file, or is of another kind there, has a
+                                    process or waits for a restart: stop it first */
+    OTP_TURNED = 16              /* otp_change: there are children, and the strategy becomes simple_one_for_one, or was it */
 };
 
 /* ---- words; 0 is none of them. Each word begins with its enum's name, or has a prefix of that enum alone ---- */
@@ -192,9 +196,9 @@ typedef struct {                 /* a child as it stands */
     otp_name id;                 /* a dynamic child has none */
 } otp_child;
 
-typedef struct {                 /* why a tree file is refused */
-    uint32_t code;               /* as `check` prints it: 1 to 7 and 10 to 16 for E1 to E7 and E10 to E16 */
-    uint32_t table;              /* the number of the table that has it */
+typedef struct {                 /* why a tree file is refused; of otp_change also why the tree doesn't go on under it */
+    uint32_t code;               /* as `check` prints it: 1 to 7 and 10 to 16 for E1 to E7 and E10 to E16; 0 where the file has no fault */
+    uint32_t table;              /* the number of the table that has it; where the code is 0 that of the supervisor of the running tree */
     uint32_t place;              /* otp_fault_place; 0 where the code says all (E10, E14, E15) */
     uint32_t index;              /* OTP_AT_CHILD, OTP_AT_CHILD_KEY: the child's place, from 0 */
     uint32_t key;                /* OTP_AT_FLAG: otp_flag_key; OTP_AT_CHILD_KEY: otp_child_key */
@@ -207,6 +211,15 @@ typedef struct {                 /* why a tree file is refused */
 /* Opens the tree that a tree file says (docs/FORMATS.md) in an empty handle; the root starts, so that orders come at once.
    Answers OTP_OK, OTP_OPEN, OTP_MEMORY, or OTP_BAD_TREE, with which `fault` is told. */
 uint32_t otp_open(otp_tree *tree, const uint8_t *text, size_t length, otp_fault *fault);
+
+/* The tree goes on under another tree file, with its clock, its numbers and its calls. A supervisor of both files (the root, or one whose
+   ids down to it are the same) gets the flags and specifications of the new one, and keeps its process and the restarts that count, as
+   many as the new intensity bears. A child of both keeps its process, under the new specification; one that is added has none until
+   otp_call starts it (OTP_CALL_RESTART_CHILD), as has a supervisor that is added. The supervisors are numbered as the new file's tables.
+   Take all orders before, and stop what is not in the new file. Where it is refused the tree is as it was, and `fault` is told, with
+   the supervisor, but for OTP_MEMORY.
+   Answers OTP_OK, OTP_CLOSED, OTP_MEMORY, OTP_BAD_TREE, OTP_BUSY, OTP_RUNNING, OTP_TURNED, OTP_SPENT. */
+uint32_t otp_change(otp_tree *tree, const uint8_t *text, size_t length, otp_fault *fault);
 
 /* Frees the tree and leaves the handle empty. An empty handle stays empty. */
 void otp_close(otp_tree *tree);
@@ -298,6 +311,9 @@ static inline const char *otp_status_text(uint32_t status) {
     case OTP_BAD_TREE: return "the tree file is refused";
     case OTP_NO_SUPERVISOR: return "no supervisor has this number";
     case OTP_NESTED: return "that process is a supervisor of the tree itself";
+    case OTP_BUSY: return "orders wait, or children are starting or stopping; make the call again later";
+    case OTP_RUNNING: return "what the new tree file no longer has so has a process";
+    case OTP_TURNED: return "children can't turn into dynamic ones, nor dynamic ones into others";
     default: return "no status of this version";
     }
 }

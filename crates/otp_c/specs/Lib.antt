@@ -7,3 +7,4 @@ pub mod Told
 pub mod Opens
 pub mod Limits
 pub mod Versions
+pub mod Changes

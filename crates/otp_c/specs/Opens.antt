@@ -16,7 +16,13 @@ pub record IsRefusal (bytes : List ℕ) (why : TableFault) : Type 0 where
   pub not_toml : why.fault ≡ fault.NotToml → ¬ (IsToml bytes)
   pub of_tree : IsOfTree why.fault → SaysAt bytes (Err why)
 
--- what the bytes of a tree file give: a tree that is opened; no memory; or a refusal
+-- what the bytes of a tree file give: a tree; no memory; or a refusal
+abbrev pub ReadsTree : List ℕ → Result Tree (Option TableFault) → Type 0
+ReadsTree bytes (Ok tree) = SaysAt bytes (Ok tree)
+ReadsTree bytes (Err None) = ⊤
+ReadsTree bytes (Err (Some why)) = IsRefusal bytes why
+
+-- the same of a tree that is opened
 abbrev pub Reads : List ℕ → Result Session (Option TableFault) → Type 0
 Reads bytes (Ok session) = (tree : Tree) × SaysAt bytes (Ok tree) × Opens tree session.driver × (session.answer ≡ None)
 Reads bytes (Err None) = ⊤

@@ -8,7 +8,7 @@ ghost use Rattle.otp_driver.specs.Driven.{least_deadline};
 ghost use Rattle.otp_c.specs.Handles.{IsKept, IsTold, OnTree, Reading};
 ghost use Rattle.otp_c.specs.Limits.{limit_of};
 ghost use Rattle.otp_c.specs.Nexts.{HandsOut, WritesNext};
-ghost use Rattle.otp_c.specs.Opens.{OpensIn, Reads};
+ghost use Rattle.otp_c.specs.Opens.{OpensIn, Reads, ReadsTree};
 ghost use Rattle.otp_c.specs.Said.{Says, line_in, spec_in};
 ghost use Rattle.otp_c.specs.Stands.{LooksAt, LooksAtChild, SaysChild, SaysRow, SaysSupervisor};
 ghost use Rattle.otp_c.specs.Versions.{version_number};
@@ -19,6 +19,7 @@ ghost use Rattle.otp_shapes.specs.declared.status.TheConstants.{OTP_OK, OTP_OPEN
 ghost use Rattle.otp_spec.specs.declared.limits.TheConstants.{MAX_TABLES};
 
 mod calls;
+mod change;
 mod handle;
 mod look;
 mod parts;
@@ -27,10 +28,11 @@ mod version;
 
 use crate::look::{row_out, supervisor_out};
 pub use calls::{otp_call, otp_note, otp_start_child, otp_stop, otp_tick};
+pub use change::otp_change;
 pub use handle::Handle;
 use otp_driven::{KEPT_EVENTS, Link, Supervisor};
 use otp_driver::{Driver, Session};
-use otp_file::{TableFault, TreeFault, read_located};
+use otp_file::{TableFault, TreeFault, TreeSpec, read_located};
 use otp_reason::{NAME_SIZE, TEXT_SIZE};
 use otp_rules::{ChildLine, Reply};
 pub use otp_shapes::{
@@ -45,19 +47,26 @@ use otp_table::Row;
 use std::alloc::Global;
 use version::{MAJOR, MINOR, PATCH};
 
-/// The tree that a file says, opened; or why it is refused, or nothing where there was no memory.
-fn session_of(alloc: Global, text: &[u8]) -> Result<Session, Option<TableFault>>
-    ensures { Reads text.now result }
+/// The tree that a file says; or why it is refused, or nothing where there was no memory.
+fn tree_of(alloc: Global, text: &[u8]) -> Result<TreeSpec, Option<TableFault>>
+    ensures { ReadsTree text.now result }
 {
-    let tree = match read_located(alloc, text) {
-        Ok(tree) => tree,
+    match read_located(alloc, text) {
+        Ok(tree) => Ok(tree),
         Err(why) => {
             if why.fault == TreeFault::OutOfMemory {
                 return Err(None);
             }
-            return Err(Some(why));
+            Err(Some(why))
         }
-    };
+    }
+}
+
+/// The same tree, opened.
+fn session_of(alloc: Global, text: &[u8]) -> Result<Session, Option<TableFault>>
+    ensures { Reads text.now result }
+{
+    let tree = tree_of(alloc, text)?;
     match Session::open(alloc, &tree) {
         Ok(session) => Ok(session),
         Err(_) => Err(None),

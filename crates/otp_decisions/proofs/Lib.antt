@@ -1,3 +1,4 @@
 pub mod Steps
 pub mod Later
 pub mod Timed
+pub mod Deadlines

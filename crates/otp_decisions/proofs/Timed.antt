@@ -1,4 +1,4 @@
--- Where no child has a deadline, none is late, and there is none to wait for.
+-- Where no child has a deadline, there is none to wait for.
 use Rattle.std.proofs.Common.{◌≡◌, ◌∙◌, ℕ, List, [], ◌∷◌, Option, None, Some, ap, refl}
 use Rattle.std.specs.Prelude.{Bool, true, false, ◌||◌}
 use Rattle.std.specs.List.{list_any}
@@ -7,17 +7,7 @@ use Rattle.otp_table.specs.declared.row.Row.{Row}
 use Rattle.otp_table.specs.declared.row.RowState.{RowState}
 use Rattle.otp_table.specs.declared.row.RowState.TheVariants.{Undefined, Starting, Up, Asked, Killed, Restarting}
 use Rattle.otp_table.specs.Rows.{is_timed, row_has}
-use Rattle.otp_rules.specs.Step.{is_late}
 use Rattle.otp_rules.specs.Next.{deadline_from, deadline_of, earlier, next_deadline}
-
-not_late : (now : ℕ) (s : RowState) → is_timed s ≡ false → is_late now s ≡ false
-not_late now Undefined off = refl
-not_late now (Starting p k) off = refl
-not_late now (Up p) off = refl
-not_late now (Asked p None) off = refl
-not_late now (Asked p (Some t)) off = absurd (both_ways true off refl)
-not_late now (Killed p) off = refl
-not_late now (Restarting k) off = refl
 
 no_deadline : (s : RowState) → is_timed s ≡ false → deadline_of s ≡ None
 no_deadline Undefined off = refl
@@ -31,12 +21,6 @@ no_deadline (Restarting k) off = refl
 either : (a b : Bool) → (a || b) ≡ false → (a ≡ false) × (b ≡ false)
 either true b off = absurd (both_ways true off refl)
 either false b off = (refl, off)
-
-pub none_late : (now : ℕ) (rows : List Row) → list_any (row_has is_timed) rows ≡ false → list_any (λ row. is_late now row.state) rows ≡ false
-none_late now [] off = refl
-none_late now (row ∷ rows) off =
-    let both : (is_timed row.state ≡ false) × (list_any (row_has is_timed) rows ≡ false) = either (is_timed row.state) (list_any (row_has is_timed) rows) off in
-    ap (λ b. b || list_any (λ (r : Row). is_late now r.state) rows) (not_late now row.state both.0) ∙ none_late now rows both.1
 
 same_from : (least : Option ℕ) → earlier least None ≡ least
 same_from None = refl

@@ -1,19 +1,18 @@
 -- The child that has a process is the only one.
-use Rattle.std.proofs.Common.{◌≡◌, ◌∙◌, ◌<◌, ◌≤◌, ℕ, List, Option, None, Some, ap, arith, get_or, length, subst, sym, take}
+use Rattle.std.proofs.Common.{◌≡◌, ◌∙◌, ◌<◌, ◌≤◌, ℕ, List, None, Some, ap, arith, get_or, length, take}
 use Rattle.std.specs.Prelude.{Bool, true, false, All, ◌+◌, cond, count_by, nat_lt, position, slice_get}
 use Rattle.std.specs.List.{position_or_len, sum_by}
 use Rattle.std.proofs.lemmas.Bool.{false_from_ne_true, lt-ltb}
 use Rattle.std.proofs.lemmas.List.{get_or-take, length-take-le}
 use Rattle.std.proofs.lemmas.List.Sums.{get_or-le-sum_by, position_or_len_is, sum_by_more_le}
 use Rattle.std.proofs.lemmas.Option.{get_or_from_slice_get, slice_get_within}
+use Rattle.otp_driven.proofs.Changed.{owned_after}
 use Rattle.otp_rules.specs.Fit.{IsDistinct}
 use Rattle.otp_rules.specs.Needs.{IsLawfulHistory, numbers_of}
-use Rattle.otp_rules.specs.Processes.{ProcessesOwned}
-use Rattle.otp_rules.specs.Run.{empty_state, state_after}
+use Rattle.otp_rules.specs.Processes.{ProcessesStayOwned}
+use Rattle.otp_rules.specs.Run.{state_after}
 use Rattle.otp_rules.specs.State.{State}
 use Rattle.otp_rules.specs.declared.event.Event.{Event}
-use Rattle.otp_spec.specs.declared.child.ChildSpec.{ChildSpec}
-use Rattle.otp_spec.specs.declared.flags.SupFlags.{SupFlags}
 use Rattle.otp_table.specs.Rows.{has_process, row_has}
 use Rattle.otp_table.specs.declared.row.Row.{Row}
 use Rattle.otp_driven.specs.Members.{row_at, row_in}
@@ -47,14 +46,13 @@ only_place test rows k row few at passes =
     position_or_len_is test rows k row (omega (arith, inside)) (λ j. none_before test rows k j row few inside there) (λ _. there) in
     ap (λ (i : ℕ). cond (nat_lt i (length rows)) (Some i) None) first ∙ ap (λ (b : Bool). cond b (Some k) None) (lt-ltb k (length rows) inside)
 
--- of a supervisor that was never opened before its events
-pub only_row : ProcessesOwned → (base : State) (history : List Event) (last k q : ℕ) (row : Row)
-    → base ≡ empty_state base.flags base.specs → IsLawfulHistory base history → All (λ n. n < last) (numbers_of history)
+-- of a supervisor each of whose processes was one child's before its events, which give no number of these
+pub only_row : ProcessesStayOwned → (base : State) (history : List Event) (given last k q : ℕ) (row : Row)
+    → IsDistinct (given + 1) base → All (λ n. given < n) (numbers_of history)
+    → IsLawfulHistory base history → given < last → All (λ n. n < last) (numbers_of history)
     → slice_get (state_after base history).rows k ≡ Some row → has_process q row.state ≡ true
     → row_at (state_after base history).rows q ≡ Some row
 unfolding row_at
-only_row owned base history last k q row fresh lawful numbers at passes =
-    let begun : IsLawfulHistory (empty_state base.flags base.specs) history = subst (λ (s : State). IsLawfulHistory s history) fresh lawful in
-    let distinct : IsDistinct last (state_after (empty_state base.flags base.specs) history) = owned base.flags base.specs history last begun numbers in
-    let here : IsDistinct last (state_after base history) = subst (λ (s : State). IsDistinct last (state_after s history)) (sym fresh) distinct in
+only_row owned base history given last k q row apart above lawful low numbers at passes =
+    let here : IsDistinct last (state_after base history) = owned_after owned base history given last apart above lawful low numbers in
     ap (row_in (state_after base history).rows) (only_place (row_has (has_process q)) (state_after base history).rows k row (here.0 q) at passes) ∙ at

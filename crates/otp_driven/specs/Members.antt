@@ -1,5 +1,5 @@
 -- A supervisor of a tree that is driven, with its events and its orders, and how they go on (own).
-use Rattle.std.specs.Prelude.{◌≡◌, ℕ, ◌+◌, ◌<◌, ◌≤◌, ◌⊎◌, Bool, List, [], ◌∷◌, ◌++◌, Option, Some, None, length, nat_lt, position, slice_get, unwrap_or, if◌then◌else◌}
+use Rattle.std.specs.Prelude.{◌≡◌, ℕ, ◌+◌, ◌<◌, ◌≤◌, ◌⊎◌, Bool, List, [], ◌∷◌, ◌++◌, Option, Some, None, length, max, nat_lt, position, slice_get, unwrap_or, if◌then◌else◌}
 use Rattle.otp_core.specs.Happened.{number_after}
 use Rattle.otp_core.specs.declared.cut.TheConstants.{MAX_EVENTS_IN_ALL, MAX_KEPT_LINES}
 use Rattle.otp_core.specs.declared.happening.EventFault.{EventFault}
@@ -20,10 +20,11 @@ use Rattle.otp_spec.specs.declared.limits.TheConstants.{MAX_EVENTS, MAX_READING}
 use Rattle.otp_table.specs.Rows.{has_process, row_has}
 use Rattle.otp_table.specs.declared.row.Row.{Row}
 
--- a supervisor: what it was before any event, all its events, the orders that it gave, but for those that were forgotten since all
--- had been taken, and how many of them, the first, were taken
+-- a supervisor: what it was before any event, and the greatest number that a process had then; all its events since; the orders
+-- that it gave, but for those that were forgotten since all had been taken, and how many of them, the first, were taken
 pub record Member : Type 0 where
   pub base : State
+  pub given : ℕ
   pub history : List Event
   pub effects : List Effect
   pub taken : ℕ
@@ -42,7 +43,11 @@ row_at rows number = row_in rows (position (row_has (has_process number)) rows)
 
 -- it was never opened
 abbrev pub unopened : SupFlags → List ChildSpec → Member
-unopened flags specs = record { base = empty_state flags specs; history = []; effects = []; taken = 0 }
+unopened flags specs = record { base = empty_state flags specs; given = 0; history = []; effects = []; taken = 0 }
+
+-- the greatest number that a child's process had
+abbrev pub greatest : Member → ℕ
+greatest m = max m.given (last_number m.history)
 
 -- an event of this kind happens to a supervisor at this reading of the clock: its orders are those of the rules, behind those
 -- that are there. Where a process is started it gets the next number after the last one
@@ -71,7 +76,7 @@ fault_of event.HistoryFull = Spent
 
 -- the numbers of processes are used up: the last one of the tree, or one of the supervisor that is greater than it
 abbrev pub IsSpent : ℕ → Member → Type 0
-IsSpent last m = (MAX_READING ≤ last) ⊎ (last < last_number m.history)
+IsSpent last m = (MAX_READING ≤ last) ⊎ (last < greatest m)
 
 -- why a supervisor takes no event: memory was refused, or one of these
 abbrev pub IsRefused : ℕ → Member → DriveFault → Type 0

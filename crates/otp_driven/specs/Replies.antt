@@ -2,7 +2,7 @@
 use Rattle.std.specs.Prelude.{◌≡◌, ℕ, true, All, List, Option, None, Some, is_some, ⊤}
 use Rattle.otp_core.specs.View.{View, stored_state}
 use Rattle.otp_core.specs.declared.reply.ReplyAnswer.{ReplyAnswer}
-use Rattle.otp_core.specs.declared.reply.ReplyAnswer.TheVariants.{Kept, Gone, NotYet}
+use Rattle.otp_core.specs.declared.reply.ReplyAnswer.TheVariants.{Kept}
 use Rattle.otp_rules.specs.declared.call.Answered.{Answered}
 use Rattle.otp_rules.specs.declared.call.Reply.{Reply}
 use Rattle.otp_rules.specs.declared.event.Effect.{Effect}

@@ -1,8 +1,10 @@
-//! Why something is not taken.
+//! Why something is not taken, and why a supervisor isn't changed.
 ghost use Rattle.std.specs.Prelude.{◌≡◌};
+ghost use Rattle.otp_driven.specs.Changed.{change_refusal, resume_refusal};
 ghost use Rattle.otp_driven.specs.Members.{fault_of};
 
-use otp_core::EventFault;
+use otp_change::ChangeFault;
+use otp_core::{BaseFault, EventFault, ResumeFault};
 use std::alloc::AllocError;
 use thiserror::Error;
 
@@ -49,5 +51,60 @@ pub(crate) fn fault_of(cause: EventFault) -> DriveFault
         EventFault::OutOfMemory => DriveFault::OutOfMemory,
         EventFault::OrdersWait => DriveFault::OrdersWait,
         EventFault::HistoryFull => DriveFault::Spent,
+    }
+}
+
+/// Why a supervisor doesn't go on under other flags and specifications. It is then as it was.
+#[derive(Clone, Copy, Debug, PartialEq, Eq, Error)]
+pub enum ChangeRefusal {
+    /// E0: memory was refused. The same may be tried again.
+    #[error("out of memory")]
+    OutOfMemory,
+    /// Orders of this supervisor wait to be taken.
+    #[error("orders wait to be taken")]
+    OrdersWait,
+    /// The change isn't made, for this; never for want of memory.
+    #[error("{0}")]
+    Change(ChangeFault),
+    /// No supervisor goes on from what the change gives: as many events were counted as may be.
+    #[error("{0}")]
+    Base(BaseFault),
+    /// It is in the tree no more, and runs. A supervisor by itself is never refused for this.
+    #[error("it is in the new tree no more, and runs")]
+    Runs,
+    /// A child that has a process would be one of another kind: a supervisor of the tree, or none. A supervisor by itself is never
+    /// refused for this.
+    #[error("a child that has a process is of another kind in the new tree")]
+    Turns,
+}
+
+impl From<AllocError> for ChangeRefusal {
+    ghost use Rattle.std.specs.Prelude.{◌≡◌};
+    ghost use Rattle.otp_driven.specs.declared.fault.ChangeRefusal.TheVariants.{OutOfMemory};
+
+    ghost from_gives = { λ _ fault. fault ≡ OutOfMemory };
+
+    fn from(_error: AllocError) -> Self {
+        ChangeRefusal::OutOfMemory
+    }
+}
+
+/// Why a change isn't made, as the driver says it.
+pub(crate) fn change_refusal(why: ChangeFault) -> ChangeRefusal
+    ensures { result ≡ change_refusal why }
+{
+    match why {
+        ChangeFault::OutOfMemory => ChangeRefusal::OutOfMemory,
+        why => ChangeRefusal::Change(why),
+    }
+}
+
+/// Why no core goes on from a checkpoint, as the driver says it.
+pub(crate) fn resume_refusal(why: ResumeFault) -> ChangeRefusal
+    ensures { result ≡ resume_refusal why }
+{
+    match why {
+        ResumeFault::OutOfMemory => ChangeRefusal::OutOfMemory,
+        ResumeFault::Base(why) => ChangeRefusal::Base(why),
     }
 }

@@ -8,7 +8,7 @@ pub mod limits;
 pub mod link;
 pub mod supervisor;
 
-pub use fault::DriveFault;
+pub use fault::{ChangeRefusal, DriveFault};
 pub use limits::KEPT_EVENTS;
 pub use link::Link;
 pub use supervisor::Supervisor;

@@ -1,6 +1,7 @@
 //! A supervisor of the tree: its core, and how many of its orders were taken.
 
-ghost use Rattle.std.specs.Prelude.{◌≡◌, ℕ, All, ◌≤◌, ◌<◌, ◌^◌, ◌-◌, ◌⊎◌, false, true, Some, is_some, min, slice_get, length, option_map, IfErr, IfOk, IfSome, OnOk, OnErr};
+ghost use Rattle.std.specs.Prelude.{◌≡◌, ◌==◌, not, ℕ, All, ◌+◌, ◌≤◌, ◌<◌, ◌^◌, ◌-◌, ◌⊎◌, [], false, true, Some, is_some, max, min, slice_get, length, option_map, IfErr, IfOk, IfSome, OnOk, OnErr};
+ghost use Rattle.otp_change.specs.Change.{MayChange, changed};
 ghost use Rattle.otp_core.specs.Happened.{HappenedAfter};
 ghost use Rattle.otp_driven.specs.declared.limits.TheConstants.{KEPT_EVENTS};
 ghost use Rattle.otp_table.specs.Rows.{has_process};
@@ -9,17 +10,24 @@ ghost use Rattle.otp_rules.specs.Ends.{last_stamps};
 ghost use Rattle.otp_rules.specs.Next.{next_deadline, next_kind};
 ghost use Rattle.otp_rules.specs.State.{is_over};
 ghost use Rattle.otp_spec.specs.declared.limits.TheConstants.{MAX_READING};
+ghost use Rattle.otp_base.specs.States.{state_in as state_of_base};
+ghost use Rattle.otp_driven.specs.Changed.{IsUnchanged, IsUnchangedAs, IsUnchangedState, MayGoOn, changed_member};
 ghost use Rattle.otp_driven.specs.Members.{Happens, HasNoRoom, IsRefused, has_order, passed, row_at, state_in, unopened};
 ghost use Rattle.otp_driven.specs.Replies.{AreAnswered, IsKept, IsReplyIn};
 ghost use Rattle.otp_driven.specs.declared.fault.DriveFault.TheVariants.{OutOfMemory};
-ghost use Rattle.otp_rules.specs.Needs.{numbers_of};
+ghost use Rattle.otp_core.specs.View.{state_of};
+ghost use Rattle.otp_rules.specs.Cuts.{short_base_of};
+ghost use Rattle.otp_rules.specs.Fit.{IsDistinct};
+ghost use Rattle.otp_rules.specs.Needs.{last_number, numbers_of};
 ghost use Rattle.otp_rules.specs.declared.event.Effect.TheVariants as effect;
 
-use crate::fault::{DriveFault, fault_of};
+use crate::fault::{ChangeRefusal, DriveFault, change_refusal, fault_of, resume_refusal};
 use crate::limits::KEPT_EVENTS;
-use otp_core::{Core, ReplyAnswer, laws};
+use otp_change::change;
+use otp_change::laws::children_stay;
+use otp_core::{Base, Core, ReplyAnswer, laws};
 use otp_rules::{CountsNow, Effect, Kind, Phase, Reply};
-use otp_spec::{MAX_READING, SupFlags, SupSpec};
+use otp_spec::{ChildSpec, MAX_READING, SupFlags, SupSpec};
 use otp_table::Row;
 use std::alloc::Global;
 use std::collections::VecDeque;
@@ -69,6 +77,9 @@ fn happen(core: &mut Core, reading: u64, kind: &Kind, last: u64) -> Result<u64, 
     ensures ok { IfOk result (λ after. HappenedAfter KEPT_EVENTS last reading kind.now core.old core.new after) }
     ensures err { OnErr result (core.new ≡ record core.old { prepared = core.new.prepared }) }
     ensures why { IfErr result (λ why. (why ≡ OutOfMemory) ⊎ HasNoRoom core.old.base core.old.history core.old.effects why) }
+    ensures base { core.new.base ≡ core.old.base }
+    ensures earlier { core.new.earlier ≡ core.old.earlier }
+    ensures above { (n : ℕ) → n ≤ last → All (λ m. n < m) (numbers_of core.old.history) → All (λ m. n < m) (numbers_of core.new.history) }
     // What a cut drops is no answer that an order tells of.
     ensures answered { AreAnswered core.old → AreAnswered core.new }
 {
@@ -78,6 +89,56 @@ fn happen(core: &mut Core, reading: u64, kind: &Kind, last: u64) -> Result<u64, 
     match core.happen_after(KEPT_EVENTS, reading, kind, last) {
         Ok(after) => Ok(after),
         Err(cause) => Err(fault_of(cause)),
+    }
+}
+
+/// The checkpoint of this core, under other flags and specifications.
+fn changed_base(
+    alloc: Global,
+    core: &Core,
+    flags: &SupFlags,
+    specs: &[ChildSpec],
+) -> Result<Base, ChangeRefusal>
+    requires { core.now.effects ≡ [] }
+    ensures state { IfOk result (λ base. state_of_base base ≡ changed flags.now specs.now (short_base_of (state_of core.now))) }
+    ensures number { IfOk result (λ base. base.counts.greatest_number ≡ max core.now.earlier.greatest_number (last_number core.now.history)) }
+    ensures possible { OnOk result (MayChange flags.now specs.now (short_base_of (state_of core.now))) }
+    ensures fault { IfErr result (IsUnchangedState flags.now specs.now (short_base_of (state_of core.now))) }
+{
+    let old = core.checkpoint(alloc)?;
+    match change(alloc, &old, flags, specs) {
+        Ok(new) => Ok(new),
+        Err(why) => Err(change_refusal(why)),
+    }
+}
+
+/// A core that goes on from the checkpoint of this one, under other flags and specifications.
+fn changed_core(
+    alloc: Global,
+    core: &Core,
+    flags: &SupFlags,
+    specs: &[ChildSpec],
+) -> Result<Core, ChangeRefusal>
+    requires effects { core.now.effects ≡ [] }
+    requires apart { IsDistinct (core.now.earlier.greatest_number + 1) core.now.base }
+    requires above { All (λ n. core.now.earlier.greatest_number < n) (numbers_of core.now.history) }
+    ensures base { IfOk result (λ new. new.base ≡ changed flags.now specs.now (short_base_of (state_of core.now))) }
+    ensures number { IfOk result (λ new. new.earlier.greatest_number ≡ max core.now.earlier.greatest_number (last_number core.now.history)) }
+    ensures history { IfOk result (λ new. new.history ≡ []) }
+    ensures cut { IfOk result (λ new. new.cut ≡ 0) }
+    ensures effects { IfOk result (λ new. new.effects ≡ []) }
+    ensures apart { IfOk result (λ new. IsDistinct (new.earlier.greatest_number + 1) new.base) }
+    ensures possible { OnOk result (MayChange flags.now specs.now (short_base_of (state_of core.now))) }
+    ensures fault { IfErr result (IsUnchangedAs flags.now specs.now (short_base_of (state_of core.now)) (max core.now.earlier.greatest_number (last_number core.now.history))) }
+{
+    laws::processes_are_owned();
+    children_stay();
+    let _lawful = core.history();
+    let _greatest = core.greatest_number();
+    let base = changed_base(alloc, core, flags, specs)?;
+    match Core::resume(alloc, &base) {
+        Ok(core) => Ok(core),
+        Err(why) => Err(resume_refusal(why)),
     }
 }
 
@@ -106,10 +167,40 @@ impl Supervisor {
         ensures err { OnErr result (self.new ≡ self.old) }
         ensures why { IfErr result (λ why. IsRefused last self.old why) }
     {
-        if last >= MAX_READING || last < self.core.last_number() {
+        if last >= MAX_READING || last < self.core.greatest_number() {
             return Err(DriveFault::Spent);
         }
         happen(&mut self.core, reading, kind, last)
+    }
+
+    /// The supervisor as it goes on under other flags and other specifications: a child of both keeps its process
+    /// ([`change`]). It itself stays as it is.
+    ///
+    /// # Errors
+    ///
+    /// A [`ChangeRefusal`].
+    pub fn changed(
+        &self,
+        alloc: Global,
+        flags: &SupFlags,
+        specs: &[ChildSpec],
+    ) -> Result<Supervisor, ChangeRefusal>
+        ensures ok { IfOk result (λ new. new ≡ changed_member flags.now specs.now self.now) }
+        ensures possible { OnOk result (MayGoOn flags.now specs.now self.now) }
+        ensures fault { IfErr result (IsUnchanged flags.now specs.now self.now) }
+    {
+        if self.keeps_orders() {
+            return Err(ChangeRefusal::OrdersWait);
+        }
+        match changed_core(alloc, &self.core, flags, specs) {
+            Ok(core) => Ok(Supervisor {
+                flags: *flags,
+                core,
+                taken: 0,
+                seen: 0,
+            }),
+            Err(why) => Err(why),
+        }
     }
 
     /// The next order that was not taken.
@@ -140,11 +231,26 @@ impl Supervisor {
         self.taken < self.core.effects().len()
     }
 
+    /// Whether an order is kept: one that was not taken, or others before it.
+    pub fn keeps_orders(&self) -> bool
+        ensures { result ≡ not (length self.now.effects == 0) }
+    {
+        !self.core.effects().is_empty()
+    }
+
     /// What it was opened with, the children aside.
     pub fn flags(&self) -> SupFlags
         ensures { result ≡ self.now.base.flags }
     {
         self.flags
+    }
+
+    /// The specifications that it was opened with; under simple_one_for_one the one that all children share.
+    pub fn specs(&self) -> &[ChildSpec]
+        ensures { result.now ≡ self.now.base.specs }
+    {
+        laws::step_keeps_plan();
+        self.core.machine().specs.as_slice()
     }
 
     /// The children in start order.
@@ -172,7 +278,7 @@ impl Supervisor {
     {
         laws::processes_are_owned();
         let _lawful = self.core.history();
-        let _last = self.core.last_number();
+        let _greatest = self.core.greatest_number();
         match row_with(self.core.rows(), self.seen, number) {
             Some(row) => Some(row),
             None => None,

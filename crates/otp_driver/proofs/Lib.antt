@@ -6,5 +6,6 @@ pub mod Steps
 pub mod Tellings
 pub mod Under
 pub mod Agree
+pub mod Changed
 mod Runs
 mod Nexts

@@ -15,8 +15,12 @@ use Rattle.otp_driver.specs.declared.order.What.{What}
 use Rattle.otp_driver.specs.declared.route.Route.{Route}
 use Rattle.otp_driver.specs.declared.route.Route.TheVariants.{Outside}
 use Rattle.otp_driver.specs.Orders.{what_of}
+use Rattle.otp_file.specs.Trees.{Table, Tree}
+use Rattle.otp_driven.specs.Members.{unopened}
+use Rattle.otp_driver.specs.Changed.{Changes, changed_from, origins_of}
+use Rattle.otp_driver.specs.Opened.{ArePlanted, IsPlanted}
 use Rattle.otp_driver.specs.Driven.{at_reading, comes, comes_at, Called, Does, Driven, IsAsked, IsAt, IsIdle, IsNext, IsOutside, Occurs, Relinks, Step, Takes, Through}
-use Rattle.otp_driver.specs.Runs.{Comes, HandsOut, Input, Output, Rests, Runs, RunsAgree, TakesNext, Tells, Calls, Stops, Reads, Ordered, AllDone, Numbered, Heard}
+use Rattle.otp_driver.specs.Runs.{Comes, HandsOut, Input, Output, Rests, Runs, RunsAgree, TakesNext, Tells, Calls, Stops, Reads, Renews, Ordered, AllDone, Numbered, Heard}
 use Rattle.otp_driver.proofs.Agree.{member_same, next_same, occurs_same, relinks_same, same_some, steps_agree, takes_same}
 
 -- a tree that stands takes no step
@@ -112,6 +116,34 @@ asked_same t u v (inl one) (inr other) = absurd (no_links t v one.0 other)
 asked_same t u v (inr one) (inl other) = absurd (no_links t u other.0 one)
 asked_same t u v (inr one) (inr other) = relinks_same 0 asked t u v one other
 
+-- a tree file is planted in one way alone
+all_planted_same : (ts : List Table) (ms ns : List Member) → ArePlanted ts ms → ArePlanted ts ns → ms ≡ ns
+all_planted_same [] [] [] one other = refl
+all_planted_same [] [] (n ∷ ns) one other = absurd other
+all_planted_same [] (m ∷ ms) ns one other = absurd one
+all_planted_same (t ∷ ts) [] ns one other = absurd one
+all_planted_same (t ∷ ts) (m ∷ ms) [] one other = absurd other
+all_planted_same (t ∷ ts) (m ∷ ms) (n ∷ ns) one other =
+    let first : m ≡ n = one.0 ∙ sym other.0 in
+    ap (λ (x : Member). x ∷ ms) first ∙ ap (λ (l : List Member). n ∷ l) (all_planted_same ts ms ns one.1 other.1)
+
+planted_same : (tree : Tree) (t u : Driven) → IsPlanted tree t → IsPlanted tree u → t ≡ u
+planted_same tree t u ((added, is, below, (reading, last, calls)), links) ((added', is', below', (reading', last', calls')), links') =
+    let same : added ≡ added' = all_planted_same tree.below added added' below below' in
+    let members : t.members ≡ u.members = is ∙ ap (λ (l : List Member). unopened tree.flags tree.specs ∷ l) same ∙ sym is' in
+    let all : t.links ≡ u.links = links ∙ sym links' in
+    ap (λ (l : List Member). record t { members = l }) members
+    ∙ ap (λ (l : List Link). record t { members = u.members; links = l }) all
+    ∙ ap (λ (n : ℕ). record t { members = u.members; links = u.links; reading = n }) (reading ∙ sym reading')
+    ∙ ap (λ (n : ℕ). record t { members = u.members; links = u.links; reading = u.reading; last = n }) (last ∙ sym last')
+    ∙ ap (λ (n : ℕ). record t { members = u.members; links = u.links; reading = u.reading; last = u.last; calls = n }) (calls ∙ sym calls')
+
+changes_same : (tree : Tree) (t u v : Driven) → Changes tree t u → Changes tree t v → u ≡ v
+changes_same tree t u v (p, planted, one) (q, planted', other) =
+    one.new_is
+    ∙ ap (λ (x : Driven). changed_from (origins_of t.links x.links) t x) (planted_same tree p q planted planted')
+    ∙ sym other.new_is
+
 comes_same : (i : Input) (o p : Output) (t u v : Driven) → Comes i o t u → Comes i p t v → (o ≡ p) × (u ≡ v)
 comes_same TakesNext (Ordered d) (Ordered e) t u v one other =
     let same : (d ≡ e) × (u ≡ v) = hands_same t u v d e one other in
@@ -155,6 +187,13 @@ comes_same (Reads r) Heard (Numbered n) t u v one other = absurd other
 comes_same (Reads r) (Ordered e) p t u v one other = absurd one
 comes_same (Reads r) AllDone p t u v one other = absurd one
 comes_same (Reads r) (Numbered n) p t u v one other = absurd one
+comes_same (Renews tree) Heard Heard t u v one other = (refl, changes_same tree t u v one other)
+comes_same (Renews tree) Heard (Ordered e) t u v one other = absurd other
+comes_same (Renews tree) Heard AllDone t u v one other = absurd other
+comes_same (Renews tree) Heard (Numbered n) t u v one other = absurd other
+comes_same (Renews tree) (Ordered e) p t u v one other = absurd one
+comes_same (Renews tree) AllDone p t u v one other = absurd one
+comes_same (Renews tree) (Numbered n) p t u v one other = absurd one
 
 pub runs_agree : RunsAgree
 runs_agree [] [] [] t u v one other = (refl, one ∙ sym other)

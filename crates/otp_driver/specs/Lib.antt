@@ -6,4 +6,5 @@ pub mod Turns
 pub mod Opened
 pub mod Sessions
 pub mod Agree
+pub mod Changed
 pub mod Runs

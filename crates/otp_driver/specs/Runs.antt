@@ -4,19 +4,23 @@ use Rattle.otp_reason.specs.declared.note.Note.{Note}
 use Rattle.otp_rules.specs.declared.call.Call.{Call}
 use Rattle.otp_rules.specs.declared.event.Item.TheVariants as item
 use Rattle.otp_rules.specs.declared.event.Kind.TheVariants as kind
+use Rattle.otp_file.specs.Trees.{Tree}
 use Rattle.otp_driven.specs.Members.{state_in}
+use Rattle.otp_driver.specs.Changed.{Changes}
 use Rattle.otp_driver.specs.declared.order.Order.{Order}
 use Rattle.otp_driver.specs.Orders.{what_of}
 use Rattle.otp_driver.specs.Driven.{at_reading, Called, Driven, GoesOn, IsAsked, IsIdle, IsOutside, Occurs, Takes}
 
 -- what whoever drives a tree does: the next order is asked for, and taken; a note is told of a child of the supervisor at a place,
--- at a reading of the clock; this supervisor is called; the root is wanted to shut down; the clock is read
+-- at a reading of the clock; this supervisor is called; the root is wanted to shut down; the clock is read; it goes on under this tree
+-- file
 pub data Input : Type 0 where
   TakesNext : Input
   Tells : ℕ → ℕ → Note → Input
   Calls : ℕ → ℕ → Call → Input
   Stops : ℕ → Input
   Reads : ℕ → Input
+  Renews : Tree → Input
 
 -- what comes of it: an order, as it is told; nothing, since nothing is left to do; the number of a call; or it was heard
 pub data Output : Type 0 where
@@ -45,6 +49,7 @@ Comes (Tells reading place x) Heard old new = Occurs place (kind.Took (item.Note
 Comes (Calls reading place call) (Numbered number) old new = Called number place call (at_reading reading old) new
 Comes (Stops reading) Heard old new = IsAsked (at_reading reading old) new
 Comes (Reads reading) Heard old new = new ≡ at_reading reading old
+Comes (Renews tree) Heard old new = Changes tree old new
 Comes _ _ old new = ⊥
 
 -- these come of these inputs, one after another

@@ -412,9 +412,9 @@ impl Driver {
         Err(DriveFault::Spent)
     }
 
-    /// The order that is next at this place was taken by the outside.
+    /// The order that is next at this place, for the outside, was taken by that.
     pub fn took(&mut self, place: usize)
-        requires { place < length self.old.members }
+        requires { IsOutside self.old place }
         ensures { Takes place self.old self.new }
     {
         self.pass(place);

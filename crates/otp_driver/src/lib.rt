@@ -4,6 +4,7 @@
 //! that are its own.
 #![tactic(auto)]
 
+pub mod changing;
 pub mod driver;
 pub mod laws;
 pub mod order;
@@ -11,8 +12,9 @@ pub mod planting;
 pub mod route;
 pub mod session;
 
+pub use changing::Unchanged;
 pub use driver::Driver;
 pub use order::{Order, Task, What};
-pub use otp_driven::{DriveFault, KEPT_EVENTS, Link, Supervisor};
+pub use otp_driven::{ChangeRefusal, DriveFault, KEPT_EVENTS, Link, Supervisor};
 pub use route::{Route, ending_in};
 pub use session::Session;

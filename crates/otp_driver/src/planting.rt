@@ -91,7 +91,7 @@ impl Driver {
     }
 
     /// The tree that a file says, of which no supervisor was opened.
-    fn plant(alloc: Global, tree: &TreeSpec) -> Result<Self, AllocError>
+    pub(crate) fn plant(alloc: Global, tree: &TreeSpec) -> Result<Self, AllocError>
         ensures { IfOk result (λ driver. IsPlanted tree.now driver) }
     {
         let mut driver = Driver::nothing(alloc);

@@ -1,6 +1,7 @@
 //! A tree with the last answer: for whoever takes orders one by one and reads them as plain values.
 
 ghost use Rattle.std.specs.Prelude.{◌≡◌, ◌<◌, ℕ, IfErr, IfNone, IfOk, IfSome, None, OnErr, OnOk, Some, length, slice_get};
+ghost use Rattle.otp_driver.specs.Changed.{Changes, RefusesChange};
 ghost use Rattle.otp_driver.specs.Opened.{Opens};
 ghost use Rattle.otp_driver.specs.Driven.{IsAt, IsNext};
 ghost use Rattle.otp_driven.specs.Members.{Member, state_in};
@@ -11,6 +12,7 @@ ghost use Rattle.otp_driver.specs.declared.route.Route.{Route};
 ghost use Rattle.otp_rules.specs.declared.event.Effect.{Effect};
 ghost use Rattle.otp_rules.specs.declared.event.Effect.TheVariants as effect;
 
+use crate::changing::Unchanged;
 use crate::driver::Driver;
 use crate::order::{Order, what_of};
 use otp_core::ReplyAnswer;
@@ -57,6 +59,21 @@ impl Session {
             driver,
             answer: None,
         })
+    }
+
+    /// The tree goes on under another tree file ([`Driver::changed`]). The answer stays.
+    ///
+    /// # Errors
+    ///
+    /// An [`Unchanged`]. Then nothing has happened.
+    pub fn change(&mut self, alloc: Global, tree: &TreeSpec) -> Result<(), Unchanged>
+        ensures ok { OnOk result (Changes tree.now self.old.driver self.new.driver) }
+        ensures answer { self.new.answer ≡ self.old.answer }
+        ensures err { OnErr result (self.new ≡ self.old) }
+        ensures why { IfErr result (RefusesChange tree.now self.old.driver) }
+    {
+        self.driver = self.driver.changed(alloc, tree)?;
+        Ok(())
     }
 
     /// The next order of the supervisor at this place.

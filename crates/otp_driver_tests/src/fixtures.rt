@@ -33,7 +33,7 @@ pub(crate) fn got<T, E>(rt: &impl Abort, what: &str, tried: Result<T, E>) -> T {
 }
 
 /// The tree of a file. Where memory is refused once, the next try finds it.
-fn tree_of(rt: &impl Abort, alloc: Global, text: &[u8]) -> TreeSpec {
+pub(crate) fn tree_of(rt: &impl Abort, alloc: Global, text: &[u8]) -> TreeSpec {
     let read = match read_tree(alloc, text) {
         Err(TreeFault::OutOfMemory) => read_tree(alloc, text),
         read => read,

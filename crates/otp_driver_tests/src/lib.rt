@@ -7,6 +7,8 @@
 #[cfg(test)]
 mod calls;
 #[cfg(test)]
+mod changes;
+#[cfg(test)]
 mod fixtures;
 #[cfg(test)]
 mod refusals;

@@ -7,7 +7,7 @@ use Rattle.otp_core.specs.declared.cut.TheConstants.{MAX_EVENTS_IN_ALL}
 use Rattle.otp_rules.specs.Effects.{is_reply}
 use Rattle.otp_spec.specs.declared.limits.TheConstants.{MAX_READING}
 use Rattle.otp_core.specs.Happened.{number_after}
-use Rattle.otp_driven.specs.Members.{Happens, IsRefused, IsSpent, Member, state_in}
+use Rattle.otp_driven.specs.Members.{Happens, IsRefused, IsSpent, Member, greatest, state_in}
 use Rattle.otp_driven.specs.declared.fault.DriveFault.TheVariants.{Spent}
 use Rattle.otp_reason.specs.declared.note.Note.{Note}
 use Rattle.otp_rules.specs.Needs.{last_from, last_number, needs_number}
@@ -52,6 +52,7 @@ pub record Went (time : ℕ) (k : Kind) (m mid taken : Member) (last : ℕ) : Ty
   pub orders : pending mid ≡ (step (state_in m) event).orders
   pub last_is : last ≡ last_number taken.history
   pub numbers : last_number taken.history ≤ length taken.history
+  pub given : taken.given ≡ m.given
 
 pub went : (time last : ℕ) (k : Kind) (m mid taken : Member) (after : ℕ) → Happens time last k m mid after → Stays mid taken
     → m.taken ≡ length m.effects → last ≡ last_number m.history → last_number m.history ≤ length m.history → Went time k m mid taken after
@@ -70,6 +71,7 @@ went time last k m mid taken after h stays all same few =
       orders = ap pending h.3 ∙ ap (λ (n : ℕ). drop n (m.effects ++ fresh)) all ∙ drop-append_seam m.effects fresh;
       last_is = h.2 ∙ ap (λ (l : ℕ). unwrap_or h.0 l) same ∙ sym (ap last_number more ∙ last_pushed 0 m.history e);
       numbers = still m.history taken.history e (needs_number (state_in m) time k) more next few;
+      given = stays.given ∙ ap (λ (x : Member). x.given) h.3;
     }
 
 -- there are orders for as many as were taken
@@ -81,12 +83,12 @@ within time last k m mid after h all =
     omega (arith, same, more, all)
 
 -- where the numbers are used up there were as many events
-pub spent : (last : ℕ) (m : Member) → IsRefused last m Spent → last ≡ last_number m.history → last_number m.history ≤ length m.history → MAX_EVENTS_IN_ALL ≤ length m.history
-spent last m refused same few =
+pub spent : (last : ℕ) (m : Member) → IsRefused last m Spent → m.given ≡ 0 → last ≡ last_number m.history → last_number m.history ≤ length m.history → MAX_EVENTS_IN_ALL ≤ length m.history
+spent last m refused none same few =
     ⊎_elim
     (λ memory. cc)
     (⊎_elim
-    (λ (used : (Spent ≡ Spent) × IsSpent last m). ⊎_elim (λ (most : MAX_READING ≤ last). omega (arith, most, same, few)) (λ (less : last < last_number m.history). absurd (omega (arith, less, same))) used.1)
+    (λ (used : (Spent ≡ Spent) × IsSpent last m). ⊎_elim (λ (most : MAX_READING ≤ last). omega (arith, most, same, few)) (λ (less : last < greatest m). absurd (omega (arith, less, none, same))) used.1)
     (⊎_elim (λ waits. cc) (λ (full : (Spent ≡ Spent) × (MAX_EVENTS_IN_ALL ≤ length m.history)). full.1)))
     refused
 

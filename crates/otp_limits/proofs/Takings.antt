@@ -26,7 +26,7 @@ by_test m o is true test =
       rest = drop_more m.effects m.taken o inside ∙ ap (λ (x : Effect). x ∷ drop (m.taken + 1) m.effects) (get_or_from_slice_get m.effects m.taken o o is);
       within = omega (arith, more);
       less = omega (arith, more);
-      stays = record { base = refl; history = refl };
+      stays = record { base = refl; given = refl; history = refl };
     }
 by_test m o is false test =
     let inside : m.taken < length m.effects = slice_get_within m.effects m.taken o is in
@@ -36,7 +36,7 @@ by_test m o is false test =
           ∙ ap (λ (xs : List Effect). o ∷ xs) (drop_all (m.taken + 1) m.effects last);
       within = omega arith;
       less = omega (arith, inside);
-      stays = record { base = refl; history = refl };
+      stays = record { base = refl; given = refl; history = refl };
     }
 
 pub passes : (m after : Member) (o : Effect) → slice_get m.effects m.taken ≡ Some o → after ≡ passed m → Passes m after o
@@ -80,7 +80,7 @@ orders_done f old new m after is none =
     sym (append-nil new) ∙ ap (λ (xs : List Effect). new ++ filter f xs) (sym left) ∙ is
 
 pub stays_on : (a b c : Member) → Stays a b → Stays b c → Stays a c
-stays_on a b c one other = record { base = other.base ∙ one.base; history = other.history ∙ one.history }
+stays_on a b c one other = record { base = other.base ∙ one.base; given = other.given ∙ one.given; history = other.history ∙ one.history }
 
 -- the next order, by what its place gives
 pub some_next : {X : Type 0} (shown : X → Effect) (o : Option X) (x : X) (m : Member) → option_map shown o ≡ slice_get m.effects m.taken → o ≡ Some x → slice_get m.effects m.taken ≡ Some (shown x)

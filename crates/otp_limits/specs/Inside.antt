@@ -12,6 +12,8 @@ scene_of a =
 pub record IsStage (a : Inside) : Type 0 where
   -- its orders were taken
   pub taken : a.supervisor.taken ≡ length a.supervisor.effects
+  -- no process had a number before its events
+  pub given : a.supervisor.given ≡ 0
   pub last : a.last ≡ last_number a.supervisor.history
   -- a number is given to an event at the most
   pub numbers : last_number a.supervisor.history ≤ length a.supervisor.history

@@ -16,4 +16,5 @@ asked order = Some order
 -- nothing happened to the supervisor
 pub record Stays (old new : Member) : Type 0 where
   pub base : new.base ≡ old.base
+  pub given : new.given ≡ old.given
   pub history : new.history ≡ old.history

@@ -141,6 +141,7 @@ fn halt_of(fault: DriveFault) -> Halt
 /// Something happens to a supervisor. The answer is the last process number then.
 fn happen(supervisor: &mut Supervisor, time: u64, kind: &Kind, last: u64) -> Result<u64, Halt>
     requires time { time ≤ MAX_READING }
+    requires given { supervisor.old.given ≡ 0 }
     requires last { last ≡ last_number supervisor.old.history }
     requires numbers { last_number supervisor.old.history ≤ length supervisor.old.history }
     ensures ok { IfOk result (λ after. Happens time last kind.now supervisor.old supervisor.new after) }

@@ -1,5 +1,6 @@
 -- What the struct of a refused tree file says (own).
 use Rattle.std.specs.Prelude.{◌≡◌, ℕ, min}
+use Rattle.otp_driver.specs.declared.changing.Unchanged.{Unchanged}
 use Rattle.otp_file.specs.Faults.{code_of}
 use Rattle.otp_file.specs.declared.fault.FaultPlace.{FaultPlace}
 use Rattle.otp_file.specs.declared.fault.FaultPlace.TheVariants as place
@@ -53,3 +54,11 @@ pub record ShowsFault (why : TableFault) (out : CFault) : Type 0 where
   pub place : out.place ≡ (spot_of why.fault).place
   pub index : out.index ≡ (spot_of why.fault).index
   pub key : out.key ≡ (spot_of why.fault).key
+
+-- the struct says which supervisor of the tree that runs is why it doesn't go on, but for the sentence
+pub record ShowsUnchanged (why : Unchanged) (out : CFault) : Type 0 where
+  pub code : out.code ≡ 0
+  pub table : out.table ≡ min why.supervisor 1000000
+  pub place : out.place ≡ 1
+  pub index : out.index ≡ 0
+  pub key : out.key ≡ 0

@@ -1,5 +1,5 @@
 -- What an order's struct says (own).
-use Rattle.std.specs.Prelude.{◌≡◌, ℕ, ◌≤◌, List, Option, Some, None, length, min, take}
+use Rattle.std.specs.Prelude.{◌≡◌, ℕ, ◌≤◌, Option, Some, None, length, min, take}
 use Rattle.otp_reason.specs.Names.{name_bytes}
 use Rattle.otp_reason.specs.Texts.{text_bytes}
 use Rattle.otp_reason.specs.declared.name.Name.{Name}

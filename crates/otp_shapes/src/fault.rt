@@ -1,10 +1,11 @@
-//! Why a tree file is refused, as a struct of C.
+//! Why a tree file is refused, or a tree doesn't go on under it, as a struct of C.
 
 ghost use Rattle.std.specs.Prelude.{◌≡◌};
-ghost use Rattle.otp_shapes.specs.Faults.{ShowsFault, spot, spot_of, spot_of_place, spot_of_spec};
+ghost use Rattle.otp_shapes.specs.Faults.{ShowsFault, ShowsUnchanged, spot, spot_of, spot_of_place, spot_of_spec};
 ghost use Rattle.otp_shapes.specs.Words.{child_key_number, flag_key_number};
 
 use crate::structs::{CFault, FAULT_SIZE};
+use otp_driver::Unchanged;
 use otp_file::{ChildKey, FaultPlace, FlagKey, TableFault, TreeFault};
 use otp_spec::{SpecFault, SpecKey};
 use std::fmt::{self, Write};
@@ -143,6 +144,27 @@ pub fn fault_of(why: &TableFault) -> CFault
         place: spot.place,
         index: spot.index,
         key: spot.key,
+        text_len: sentence.len.min(FAULT_SIZE) as u32,
+        text,
+    }
+}
+
+/// Which supervisor of the tree that runs is why it doesn't go on under another tree file, as plain numbers and bytes.
+pub fn unchanged_of(why: &Unchanged) -> CFault
+    ensures { ShowsUnchanged why.now result }
+{
+    let mut sentence = Sentence {
+        bytes: [0; FAULT_SIZE],
+        len: 0,
+    };
+    let _ = write!(sentence, "{why}");
+    let text = sentence.bytes;
+    CFault {
+        code: 0,
+        table: why.supervisor.min(1_000_000) as u32,
+        place: 1,
+        index: 0,
+        key: 0,
         text_len: sentence.len.min(FAULT_SIZE) as u32,
         text,
     }

@@ -1,9 +1,10 @@
 //! What each call answers.
 
 ghost use Rattle.std.specs.Prelude.{◌≡◌};
-ghost use Rattle.otp_shapes.specs.Statuses.{status_of};
+ghost use Rattle.otp_shapes.specs.Statuses.{change_status, status_of};
 
-use otp_driven::DriveFault;
+use otp_change::ChangeFault;
+use otp_driven::{ChangeRefusal, DriveFault};
 
 /// It was done.
 pub const OTP_OK: u32 = 0;
@@ -47,6 +48,15 @@ pub const OTP_NO_SUPERVISOR: u32 = 12;
 /// The process is a supervisor of the tree.
 pub const OTP_NESTED: u32 = 13;
 
+/// Orders wait, or children are starting or stopping.
+pub const OTP_BUSY: u32 = 14;
+
+/// A process would be left without its child or its supervisor.
+pub const OTP_RUNNING: u32 = 15;
+
+/// Children would turn into dynamic ones, or dynamic ones into others.
+pub const OTP_TURNED: u32 = 16;
+
 /// The number by which a refusal is told.
 pub fn status_of(fault: DriveFault) -> u32
     ensures { result ≡ status_of fault }
@@ -58,5 +68,20 @@ pub fn status_of(fault: DriveFault) -> u32
         DriveFault::BadReading => OTP_BAD_READING,
         DriveFault::NoSupervisor => OTP_NO_SUPERVISOR,
         DriveFault::IsNested => OTP_NESTED,
+    }
+}
+
+/// The number by which it is told why a supervisor isn't changed.
+pub fn change_status(why: ChangeRefusal) -> u32
+    ensures { result ≡ change_status why }
+{
+    match why {
+        ChangeRefusal::OutOfMemory | ChangeRefusal::Change(ChangeFault::OutOfMemory) => OTP_MEMORY,
+        ChangeRefusal::OrdersWait | ChangeRefusal::Change(ChangeFault::Busy) => OTP_BUSY,
+        ChangeRefusal::Change(ChangeFault::Running) | ChangeRefusal::Runs | ChangeRefusal::Turns =>
+            OTP_RUNNING,
+        ChangeRefusal::Change(ChangeFault::Turned) => OTP_TURNED,
+        ChangeRefusal::Change(ChangeFault::Spec(_)) => OTP_BAD_TREE,
+        ChangeRefusal::Base(_) => OTP_SPENT,
     }
 }

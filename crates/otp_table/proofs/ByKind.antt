@@ -1,7 +1,6 @@
 -- What is asked of rows, by the kinds of their states.
-use Rattle.std.proofs.Common.{◌≡◌, ℕ, ◌+◌, ◌==◌, List, [], ◌∷◌, ap, arith, cond, refl}
-use Rattle.std.specs.Prelude.{Bool, count_by, Option, None, Some}
-use Rattle.std.specs.List.{sum_by}
+use Rattle.std.proofs.Common.{◌≡◌, ℕ, ◌+◌, ◌==◌, List, [], ◌∷◌, arith, cond, refl}
+use Rattle.std.specs.Prelude.{Bool, count_by, None, Some}
 use Rattle.std.proofs.lemmas.List.Sums.{sum_by-cons}
 use Rattle.otp_table.specs.declared.row.Row.{Row}
 use Rattle.otp_table.specs.declared.row.RowState.{RowState}

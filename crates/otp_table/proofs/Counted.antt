@@ -3,7 +3,6 @@ use Rattle.std.proofs.Common.{◌≡◌, ℕ, ◌+◌, ◌-◌, ◌<◌, ◌==�
 use Rattle.std.specs.Prelude.{Bool, count_by}
 use Rattle.std.specs.List.{remove, sum_by}
 use Rattle.std.proofs.lemmas.List.Sums.{sum_by-remove}
-use Rattle.otp_table.specs.declared.counts.TheConstants.{KINDS}
 use Rattle.otp_table.specs.declared.row.Row.{Row}
 use Rattle.otp_table.specs.Counted.{AreOfKinds, HasOneLess, is_of, kind_of}
 

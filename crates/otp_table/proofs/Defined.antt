@@ -17,14 +17,14 @@ pushed_defined rows all n m row is defined less few =
     subst (AreDefined m) (sym is) (λ k d lt within.
     ap (λ (r : Row). is_undefined r.state) (get_or_append_left rows (row ∷ []) d k (omega (arith, lt, few))) ∙ defined k d (omega (arith, lt, less)) (omega (arith, lt, few)))
 
-removed_first : (rows : List Row) (p k : ℕ) (d : Row) → k < p → get_or (remove rows p) k d ≡ get_or rows k d
+pub removed_first : (rows : List Row) (p k : ℕ) (d : Row) → k < p → get_or (remove rows p) k d ≡ get_or rows k d
 removed_first [] zero k d h = refl
 removed_first [] (suc p) k d h = refl
 removed_first (r ∷ rows) zero k d h = absurd (omega (arith, h))
 removed_first (r ∷ rows) (suc p) zero d h = refl
 removed_first (r ∷ rows) (suc p) (suc k) d h = removed_first rows p k d (omega (arith, h))
 
-removed_later : (rows : List Row) (p k : ℕ) (d : Row) → p ≤ k → get_or (remove rows p) k d ≡ get_or rows (suc k) d
+pub removed_later : (rows : List Row) (p k : ℕ) (d : Row) → p ≤ k → get_or (remove rows p) k d ≡ get_or rows (suc k) d
 removed_later [] zero k d h = refl
 removed_later [] (suc p) k d h = refl
 removed_later (r ∷ rows) zero k d h = refl

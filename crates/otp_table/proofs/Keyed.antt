@@ -1,5 +1,5 @@
 -- Lists whose keys rise, each above the one before, whatever the key is.
-use Rattle.std.proofs.Common.{◌≡◌, ℕ, ◌+◌, ◌<◌, ◌≤◌, List, ap, arith, get_or, length, subst, inl, inr}
+use Rattle.std.proofs.Common.{◌≡◌, ℕ, ◌<◌, ◌≤◌, List, ap, arith, get_or, length, subst, inl, inr}
 use Rattle.std.specs.Prelude.{AllPairs}
 use Rattle.std.proofs.lemmas.Bool.{cases_lt}
 use Rattle.std.proofs.lemmas.List.{get_or_default}
@@ -15,10 +15,3 @@ upto key xs rise k m d le within =
 -- a key that stands there doesn't depend on a default
 pub key_default : {X : Type 0} (key : X → ℕ) (xs : List X) (m : ℕ) (d e : X) → m < length xs → key (get_or xs m d) ≡ key (get_or xs m e)
 key_default key xs m d e within = ap key (get_or_default xs m d e within)
-
--- all up to a key below this one are below it
-pub before : {X : Type 0} (key : X → ℕ) (n : ℕ) (xs : List X) → AllPairs (λ one later. key one < key later) xs → (m : ℕ) (e : X) → m < length xs → key (get_or xs m e) < n → (k : ℕ) (d : X) → k < m + 1 → key (get_or xs k d) < n
-before key n xs rise m e within less k d below =
-    let same : key (get_or xs m d) ≡ key (get_or xs m e) = key_default key xs m d e within in
-    let up : key (get_or xs k d) ≤ key (get_or xs m d) = upto key xs rise k m d (omega (arith, below)) within in
-    omega (arith, up, same, less)

@@ -1,5 +1,5 @@
 -- Numbers of rows.
-use Rattle.std.specs.Prelude.{◌≡◌, ◌<◌, ◌+◌, ◌-◌, ◌==◌, ℕ, Bool, List, Option, Some, None, cond, count_by, get_or}
+use Rattle.std.specs.Prelude.{◌≡◌, ◌<◌, ◌+◌, ◌-◌, ◌==◌, ℕ, Bool, List, Some, None, cond, count_by, get_or}
 use Rattle.otp_table.specs.declared.counts.Counts.{Counts}
 use Rattle.otp_table.specs.declared.counts.TheConstants.{KINDS}
 use Rattle.otp_table.specs.declared.row.Row.{Row}

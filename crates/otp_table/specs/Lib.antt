@@ -1,4 +1,5 @@
 pub mod Rows
+pub mod Deadlines
 pub mod Keys
 pub mod Marks
 pub mod Numbers

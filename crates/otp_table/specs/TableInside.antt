@@ -3,6 +3,7 @@ use Rattle.otp_spec.specs.declared.limits.TheConstants.{MAX_CHILDREN}
 use Rattle.otp_table.specs.Counted.{AreCounted}
 use Rattle.otp_table.specs.Marks.{AreMarks, Rises, id_at, number_at}
 use Rattle.otp_table.specs.Numbers.{AreApart, AreWithin}
+use Rattle.otp_table.specs.Deadlines.{AreNotBefore}
 use Rattle.otp_table.specs.Rows.{AreDefined}
 use Rattle.otp_table.specs.Table.{Table}
 use Rattle.otp_table.specs.declared.rows.Rows.TheInside.{Inside}
@@ -18,6 +19,8 @@ pub record IsTable (t : Inside) : Type 0 where
   pub counted : AreCounted t.counts t.items.items
   -- none of the first is undefined
   pub defined : AreDefined t.defined t.items.items
+  -- none has an earlier deadline
+  pub soonest : AreNotBefore t.soonest t.items.items
   -- no row has a number above the greatest
   pub within : AreWithin t.greatest (number_at t.items.items)
   -- and no two have one

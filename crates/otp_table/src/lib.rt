@@ -2,6 +2,7 @@
 #![tactic(auto)]
 
 mod counts;
+mod deadlines;
 mod hints;
 mod keys;
 mod marks;

@@ -11,49 +11,18 @@ pub struct Mark {
     pub place: usize,
 }
 
-/// Whether the key is above all of these.
-fn is_above(marks: &[Mark], key: u64) -> bool
-    requires { Rises marks.now }
-    ensures { IsTrue result → (k : ℕ) (d : Mark) → k < length marks.now → (get_or marks.now k d).key < key }
-{
-    marks.is_empty() || marks[marks.len() - 1].key < key
-}
-
-/// The first place from which on the keys, which rise, are this one or above it. A key that is above them all belongs at the
-/// end and is not searched for.
+/// The first place from which on the keys, which rise, are this one or above it.
 pub fn first_from(marks: &[Mark], key: u64) -> usize
     requires { Rises marks.now }
     ensures inside { result ≤ length marks.now }
     ensures before { (k : ℕ) (d : Mark) → k < result → (get_or marks.now k d).key < key }
     ensures after { (k : ℕ) (d : Mark) → result ≤ k → k < length marks.now → key ≤ (get_or marks.now k d).key }
 {
-    if is_above(marks, key) {
-        return marks.len();
-    }
     marks.partition_point(|mark| mark.key < key)
 }
 
-/// Whether the last mark has this key.
-fn is_last(marks: &[Mark], key: u64) -> bool
-    ensures { IsTrue result → HasKey key (length marks.now - 1) marks.now }
-{
-    !marks.is_empty() && marks[marks.len() - 1].key == key
-}
-
-/// Where the mark with this key stands. The last is looked at first.
+/// Where the mark with this key stands.
 fn index_of(marks: &[Mark], key: u64) -> Option<usize>
-    requires { Rises marks.now }
-    ensures { MatchOption result ((p : ℕ) → IsUnder key p marks.now → ⊥) (λ i. HasKey key i marks.now) }
-{
-    if is_last(marks, key) {
-        Some(marks.len() - 1)
-    } else {
-        search_index(marks, key)
-    }
-}
-
-/// Where the mark with this key stands, found by halving.
-fn search_index(marks: &[Mark], key: u64) -> Option<usize>
     requires { Rises marks.now }
     ensures { MatchOption result ((p : ℕ) → IsUnder key p marks.now → ⊥) (λ i. HasKey key i marks.now) }
 {

@@ -1,9 +1,11 @@
 ghost use Rattle.std.specs.Prelude.{List, count_by, get_or, ◌≡◌, ◌+◌, ◌<◌, ◌≤◌, ◌==◌, ◌++◌, ◌∷◌, [], length, max, nat_le, position, remove, vec_len, vec_capacity, slice_get, slice_range, slice_set, take, drop, OnOk, OnErr, Some, if◌then◌else◌};
 ghost use Rattle.otp_table.specs.Rows.{AreDefined, AreDefinedBut, awaits_retry, calm_rows, calmed, free_slot, has_id, has_number, has_process, is_active, is_awaited, is_left, is_supervisor, is_timed, is_undefined, is_worker, row_has, with_state};
+ghost use Rattle.otp_table.specs.Deadlines.{AreNotBefore};
 ghost use Rattle.std.specs.List.{list_any};
 ghost use Rattle.otp_table.specs.declared.row.Row.{Row};
 
 use crate::counts::{Counts, count_change, count_row, uncount_row};
+use crate::deadlines::{soonest_of, soonest_place, soonest_with};
 use crate::hints::Hints;
 use crate::keys::{id_in, id_key, number_in};
 use crate::marks::{Mark, change_mark, remove_mark};
@@ -25,6 +27,10 @@ pub struct Rows {
     counts: Counts,
     /// So many rows, the first, are not undefined.
     defined: usize,
+    /// No child has an earlier deadline.
+    soonest: u64,
+    /// Where one that has this deadline stands most likely.
+    soonest_at: usize,
     /// Where the row with a number stands most likely.
     hints: Hints,
     /// No row has a greater number.
@@ -60,6 +66,8 @@ impl Rows {
             room: 0,
             counts: Counts::new(),
             defined: 0,
+            soonest: u64::MAX,
+            soonest_at: 0,
             hints: Hints::new(alloc),
             greatest: 0,
             is_apart: true,
@@ -158,6 +166,19 @@ impl Rows {
         self.defined
     }
 
+    /// A moment before which no child has a deadline: where one alone has one, that one; where none has one, 2^64 - 1. Looks
+    /// at no row.
+    pub fn soonest(&self) -> u64
+        ensures { AreNotBefore result self.now.rows }
+    {
+        self.soonest
+    }
+
+    /// Where a child that has just this deadline stands most likely: whoever asks looks whether it has it.
+    pub fn soonest_at(&self) -> usize {
+        self.soonest_at
+    }
+
     /// The row at this place.
     pub fn get(&self, place: usize) -> &Row
         requires { place < length self.now.rows }
@@ -254,6 +275,8 @@ impl Rows {
         }
         count_row(&self.items, &mut self.counts, &row);
         self.defined = self.defined.min(self.items.len());
+        self.soonest = soonest_with(self.soonest, row.state);
+        self.soonest_at = soonest_place(self.soonest_at, self.soonest, self.items.len(), row.state);
         let number = row.state.number();
         self.is_apart = stay_apart(
             &self.items,
@@ -287,6 +310,8 @@ impl Rows {
     {
         count_change(&self.items, &mut self.counts, place, state);
         self.defined = defined_after(self.defined, place, state, self.counts.undefined());
+        self.soonest = soonest_of(soonest_with(self.soonest, state), self.counts.timed());
+        self.soonest_at = soonest_place(self.soonest_at, self.soonest, place, state);
         let old = number_in(&self.items, place);
         let number = state.number();
         self.is_apart = stay_apart(
@@ -340,6 +365,7 @@ impl Rows {
     {
         uncount_row(&self.items, &mut self.counts, place);
         self.defined = defined_without(self.defined, place);
+        self.soonest = soonest_of(self.soonest, self.counts.timed());
         let id = id_in(&self.items, place);
         remove_mark(&mut self.ids, place, id);
         self.items.remove(place)
@@ -353,6 +379,7 @@ impl Rows {
         self.items.clear();
         self.counts = Counts::new();
         self.defined = 0;
+        self.soonest = u64::MAX;
         self.greatest = 0;
         self.is_apart = true;
         self.ids.clear();

@@ -10,6 +10,11 @@ use Rattle.otp_driver.proofs.Tellings.{keeps_what}
 use Rattle.otp_shapes.specs.Orders.{ShowsOrder}
 use Rattle.otp_c.proofs.next.Goals as goal
 
+pub took-requires : goal.took-requires
+took-requires c =
+    let readied : Readied c.in-Ok-Some.place c.args.session.now c.ready.new.self = search rules in
+    record { order = readied.effect; next = readied.next; first = readied.first }
+
 pub returns-in-Ok-Some : goal.returns-in-Ok-Some
 returns-in-Ok-Some c =
     let place : ℕ = c.in-Ok-Some.place in

@@ -8,4 +8,4 @@ pub returns-in-Err-clause-full : goal.returns-in-Err-clause-full
 returns-in-Err-clause-full c =
     λ full. spent c.args.last c.args.supervisor.now
     (subst (λ (why : DriveFault). IsRefused c.args.last c.args.supervisor.now why) (c.halt_of.ensures full) (c.in-Err.ensures {u = tt}).why)
-    c.requires.last c.requires.numbers
+    c.requires.given c.requires.last c.requires.numbers

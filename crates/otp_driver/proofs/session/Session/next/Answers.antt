@@ -7,6 +7,11 @@ use Rattle.otp_driver.specs.declared.order.What.{What}
 use Rattle.otp_driver.proofs.Tellings.{keeps_what, told_next}
 use Rattle.otp_driver.proofs.session.Session.next.Goals as goal
 
+pub took-requires : goal.took-requires
+took-requires c =
+    let readied : Readied c.in-Some.place c.args.self.now c.ready.new.self = search rules in
+    record { order = readied.effect; next = readied.next; first = readied.first }
+
 pub returns : goal.returns
 returns c =
     let mid : Driven = c.ready.new.self.driver in

@@ -19,14 +19,14 @@ invariant_of-self-in_err-take_orders c =
     let w : Went c.args.time c.args.kind c.self.inside.supervisor c.happen.new.supervisor c.take_orders.new.supervisor c.in_ok-last.last =
     went c.args.time c.self.inside.last c.args.kind c.self.inside.supervisor c.happen.new.supervisor c.take_orders.new.supervisor c.in_ok-last.last
     c.in_ok-last.ensures.ok c.take_orders.ensures.stays c.self.invariant.taken c.self.invariant.last c.self.invariant.numbers in
-    record { taken = c.take_orders.ensures.all; last = w.last_is; numbers = w.numbers }
+    record { taken = c.take_orders.ensures.all; given = w.given ∙ c.self.invariant.given; last = w.last_is; numbers = w.numbers }
 
 pub invariant_of-self-2 : goal.invariant_of-self-2
 invariant_of-self-2 c =
     let w : Went c.args.time c.args.kind c.self.inside.supervisor c.happen.new.supervisor c.take_orders.new.supervisor c.in_ok-last.last =
     went c.args.time c.self.inside.last c.args.kind c.self.inside.supervisor c.happen.new.supervisor c.take_orders.new.supervisor c.in_ok-last.last
     c.in_ok-last.ensures.ok c.take_orders.ensures.stays c.self.invariant.taken c.self.invariant.last c.self.invariant.numbers in
-    record { taken = c.take_orders.ensures.all; last = w.last_is; numbers = w.numbers }
+    record { taken = c.take_orders.ensures.all; given = w.given ∙ c.self.invariant.given; last = w.last_is; numbers = w.numbers }
 
 pub returns-clause-ok : goal.returns-clause-ok
 unfolding event_for

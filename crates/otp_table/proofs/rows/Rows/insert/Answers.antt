@@ -9,6 +9,7 @@ use Rattle.otp_table.specs.Numbers.{AreApart, AreWithin, IsOnlyAt}
 use Rattle.otp_table.proofs.Differing.{pushed_apart, pushed_within}
 use Rattle.otp_table.proofs.Indexed.{key_past, pushed_marks}
 use Rattle.otp_table.proofs.Defined.{pushed_defined}
+use Rattle.otp_table.proofs.Soonest.{pushed_before}
 use Rattle.otp_table.proofs.rows.Rows.insert.Goals as goal
 
 pub invariant_of-self : goal.invariant_of-self
@@ -18,9 +19,10 @@ invariant_of-self c =
       limit = search rules;
       counted = subst (AreCounted _) (sym c.push_reserved.ensures.items) (subst (λ (xs : List Row). AreCounted c.count_row.new.counts (xs ++ c.args.row ∷ [])) c.deref.ensures.value c.count_row.ensures);
       defined = pushed_defined c.self.inside.items.items c.push_reserved.new.self.items c.self.inside.defined _ c.args.row c.push_reserved.ensures.items c.self.invariant.defined (omega (arith, c.min-self-inside.ensures)) (grind (arith, common_steps));
+      soonest = pushed_before c.self.inside.items.items c.push_reserved.new.self.items c.self.inside.soonest c.soonest_with-self-inside.result c.args.row c.push_reserved.ensures.items c.soonest_with-self-inside.ensures.least c.soonest_with-self-inside.ensures.own c.self.invariant.soonest;
       within = pushed_within c.self.inside.items.items _ c.args.row _ c.self.inside.greatest _ c.push_reserved.ensures.items c.number-number.ensures c.self.invariant.within c.greatest_with-self-inside.ensures;
-      apart = λ w. pushed_apart c.self.inside.items.items _ c.args.row c.len-2.result c.number-number.result c.push_reserved.ensures.items (search rules) c.number-number.ensures (c.self.invariant.apart (c.stay_apart-self-inside.ensures.before w))
-          (subst (λ (xs : List Row). IsOnlyAt c.len-2.result c.number-number.result (number_at xs)) c.deref-2.ensures.value (c.stay_apart-self-inside.ensures.only w));
+      apart = λ w. pushed_apart c.self.inside.items.items _ c.args.row c.len-3.result c.number-number.result c.push_reserved.ensures.items (search rules) c.number-number.ensures (c.self.invariant.apart (c.stay_apart-self-inside.ensures.before w))
+          (subst (λ (xs : List Row). IsOnlyAt c.len-3.result c.number-number.result (number_at xs)) c.deref-2.ensures.value (c.stay_apart-self-inside.ensures.only w));
       ids_room = search rules;
       ids_rise = c.change_mark-self-inside.ensures.rises;
       named = λ yes. pushed_marks id_key c.self.inside.items.items _ c.args.row _ _ c.self.inside.ids.items _ c.push_reserved.ensures.items (search rules) c.id_key.ensures
@@ -36,5 +38,5 @@ stay_apart-self-inside-requires-clause-apart c w = subst (λ (xs : List Row). Ar
 pub stay_apart-self-inside-requires-clause-old : goal.stay_apart-self-inside-requires-clause-old
 stay_apart-self-inside-requires-clause-old c =
     let items : List Row = c.self.inside.items.items in
-    let here : length items ≡ c.len-2.result = search rules in
-    sym (ap (λ (xs : List Row). number_at xs c.len-2.result) c.deref-2.ensures.value ∙ ap (λ (p : ℕ). number_at items p) (sym here) ∙ key_past number_key items)
+    let here : length items ≡ c.len-3.result = search rules in
+    sym (ap (λ (xs : List Row). number_at xs c.len-3.result) c.deref-2.ensures.value ∙ ap (λ (p : ℕ). number_at items p) (sym here) ∙ key_past number_key items)

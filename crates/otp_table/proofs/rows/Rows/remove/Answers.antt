@@ -11,14 +11,17 @@ use Rattle.otp_table.specs.Marks.{id_at}
 use Rattle.otp_table.proofs.Differing.{removed_apart, removed_within}
 use Rattle.otp_table.proofs.Indexed.{removed_marks}
 use Rattle.otp_table.proofs.Defined.{removed_defined}
+use Rattle.otp_table.proofs.Soonest.{removed_before}
 use Rattle.otp_table.proofs.rows.Rows.remove.Goals as goal
 
 pub invariant_of-self : goal.invariant_of-self
 invariant_of-self c =
+    let counted : AreCounted c.uncount_row.new.counts c.remove.new.self.items = subst (AreCounted c.uncount_row.new.counts) (sym c.remove.ensures.items) (subst (λ (xs : List Row). AreCounted c.uncount_row.new.counts (remove xs c.args.place)) c.deref.ensures.value c.uncount_row.ensures) in
     record {
       room = search rules;
       limit = search rules;
-      counted = subst (AreCounted c.uncount_row.new.counts) (sym c.remove.ensures.items) (subst (λ (xs : List Row). AreCounted c.uncount_row.new.counts (remove xs c.args.place)) c.deref.ensures.value c.uncount_row.ensures);
+      counted = counted;
+      soonest = c.soonest_of-self-inside.ensures _ (sym (c.timed.ensures _ counted)) (removed_before c.self.inside.items.items c.remove.new.self.items c.args.place c.self.inside.soonest c.remove.ensures.items (search rules) c.self.invariant.soonest);
       defined = removed_defined c.self.inside.items.items c.remove.new.self.items c.args.place c.self.inside.defined _ c.remove.ensures.items (search rules) c.self.invariant.defined c.defined_without-self-inside.ensures.less c.defined_without-self-inside.ensures.gone;
       within = removed_within c.self.inside.items.items _ c.args.place c.self.inside.greatest c.remove.ensures.items c.self.invariant.within;
       apart = λ w. removed_apart c.self.inside.items.items _ c.args.place c.remove.ensures.items (c.self.invariant.apart w);

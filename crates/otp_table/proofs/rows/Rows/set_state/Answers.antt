@@ -10,6 +10,7 @@ use Rattle.otp_table.proofs.Differing.{set_apart, set_within}
 use Rattle.otp_table.proofs.Indexed.{kept_marks}
 use Rattle.std.proofs.lemmas.List.{get_or_default, get_or-set_same}
 use Rattle.otp_table.proofs.Defined.{set_but}
+use Rattle.otp_table.proofs.Soonest.{set_before}
 use Rattle.otp_table.proofs.rows.Rows.set_state.Goals as goal
 
 pub invariant_of-self : goal.invariant_of-self
@@ -28,6 +29,7 @@ invariant_of-self c =
       counted = counted;
       defined = c.defined_after-self-inside.ensures _ (sym (c.undefined.ensures _ counted)) (set_but c.self.inside.items.items c.args.place c.self.inside.defined _ c.self.invariant.defined) c.index_mut.result.now
           (ap (λ (r : Row). r.state) (get_or-set_same c.self.inside.items.items c.args.place (with_state c.args.state c.index_mut.result.now) c.index_mut.result.now (search rules)));
+      soonest = c.soonest_of-self-inside.ensures _ (sym (c.timed.ensures _ counted)) (set_before items c.args.place c.self.inside.soonest c.soonest_with.result (with_state c.args.state here) c.soonest_with.ensures.least c.soonest_with.ensures.own c.self.invariant.soonest);
       within = set_within items c.args.place (with_state c.args.state here) _ c.self.inside.greatest _ (search rules) c.number-number.ensures c.self.invariant.within c.greatest_with-self-inside.ensures;
       apart = λ w. set_apart items c.args.place (with_state c.args.state here) _ (search rules) c.number-number.ensures (c.self.invariant.apart (c.stay_apart-self-inside.ensures.before w))
           (subst (λ (xs : List Row). IsOnlyAt c.args.place c.number-number.result (number_at xs)) c.deref-3.ensures.value (c.stay_apart-self-inside.ensures.only w));

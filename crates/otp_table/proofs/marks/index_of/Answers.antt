@@ -2,8 +2,8 @@ use Rattle.std.proofs.Common.{◌∙◌, arith}
 use Rattle.otp_table.specs.declared.marks.Mark.{Mark}
 use Rattle.otp_table.proofs.Keyed.{key_default}
 use Rattle.otp_table.proofs.Rising.{none_under}
-use Rattle.otp_table.proofs.marks.search_index.Goals.{else-first-marks-via-then-first-marks+else-marks-first, else-first-marks-via-else-first-marks}
-use Rattle.otp_table.proofs.marks.search_index.Goals as goal
+use Rattle.otp_table.proofs.marks.index_of.Goals.{else-first-marks-via-then-first-marks+else-marks-first, else-first-marks-via-else-first-marks}
+use Rattle.otp_table.proofs.marks.index_of.Goals as goal
 
 pub returns-then-marks-first : goal.returns-then-marks-first
 returns-then-marks-first c =
