@@ -1,8 +1,7 @@
 #!/usr/bin/env python3
 """Transcripts that no OTP can record, since the rule is this project's own or differs from OTP: own.py FILE.
 
-Each says why. Its orders were worked out by hand from docs/OTP.md, docs/FORMATS.md and docs/DEFINITIONS.md, never taken
-from the program. Lines and orders are written in one line each here, as in the worked rows.
+Each says why. Its orders were worked out by hand from docs/OTP.md and docs/FORMATS.md, never taken from the program. Lines and orders are written in one line each here, as in the worked rows.
 """
 import sys
 from pathlib import Path

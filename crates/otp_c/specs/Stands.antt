@@ -1,7 +1,6 @@
 -- What the structs of a supervisor and of a child as they stand say (own).
-use Rattle.std.specs.Prelude.{◌≡◌, ℕ, ◌-◌, ◌*◌, ◌^◌, ◌<◌, ◌≤◌, List, Option, Some, None, count_by, is_some, length, min, nat_le, position, slice_get}
+use Rattle.std.specs.Prelude.{◌≡◌, ℕ, ◌-◌, ◌*◌, ◌^◌, List, Option, Some, None, count_by, is_some, length, min, nat_le, position, slice_get}
 use Rattle.otp_driven.specs.declared.link.Link.{Link}
-use Rattle.otp_driver.specs.Driven.{Driven}
 use Rattle.otp_driven.specs.Links.{is_link_of}
 use Rattle.otp_driven.specs.Members.{Member, state_in}
 use Rattle.otp_driver.specs.declared.session.Session.{Session}
@@ -9,7 +8,7 @@ use Rattle.otp_rules.specs.Counts.{counts_of}
 use Rattle.otp_rules.specs.Ends.{last_stamps}
 use Rattle.otp_rules.specs.declared.ending.Ending.{Ending}
 use Rattle.otp_rules.specs.declared.work.Phase.{Phase}
-use Rattle.otp_rules.specs.declared.work.Phase.TheVariants.{Unopened, Open, Ended}
+use Rattle.otp_rules.specs.declared.work.Phase.TheVariants.{Ended}
 use Rattle.otp_spec.specs.declared.child.ChildSpec.{ChildSpec}
 use Rattle.otp_table.specs.declared.row.Row.{Row}
 use Rattle.otp_table.specs.declared.row.RowState.{RowState}

@@ -1,5 +1,5 @@
 use Rattle.std.specs.Prelude.{Err, None, Ok, Some, refl}
-use Rattle.std.proofs.Common.{◌≡◌, ℕ, rules}
+use Rattle.std.proofs.Common.{ℕ, rules}
 use Rattle.otp_driver.specs.Driven.{Driven}
 use Rattle.otp_driver.specs.declared.order.Order.{Order}
 use Rattle.otp_driver.specs.declared.session.Session.{Session}
