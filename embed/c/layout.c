@@ -34,6 +34,7 @@ int main(void) {
     AT(otp_fault, text_len); AT(otp_fault, text);
     WORD(OTP_OK); WORD(OTP_NONE); WORD(OTP_MEMORY); WORD(OTP_FULL); WORD(OTP_SPENT); WORD(OTP_BAD_READING);
     WORD(OTP_BAD_TREE); WORD(OTP_NO_SUPERVISOR); WORD(OTP_NESTED);
+    WORD(OTP_BUSY); WORD(OTP_RUNNING); WORD(OTP_TURNED);
     WORD(OTP_RESTART_PERMANENT); WORD(OTP_RESTART_TRANSIENT); WORD(OTP_RESTART_TEMPORARY); WORD(OTP_TYPE_WORKER); WORD(OTP_TYPE_SUPERVISOR);
     WORD(OTP_STRATEGY_ONE_FOR_ONE); WORD(OTP_STRATEGY_ONE_FOR_ALL); WORD(OTP_STRATEGY_REST_FOR_ONE); WORD(OTP_STRATEGY_SIMPLE_ONE_FOR_ONE);
     WORD(OTP_AUTO_SHUTDOWN_NEVER); WORD(OTP_AUTO_SHUTDOWN_ANY_SIGNIFICANT); WORD(OTP_AUTO_SHUTDOWN_ALL_SIGNIFICANT);
@@ -48,8 +49,8 @@ int main(void) {
         if (otp_limit(kind) != limits[kind]) return fprintf(stderr, "limit %u differs\n", kind), 1;
     if (otp_version() != OTP_VERSION_NUMBER || !otp_fits()) return fprintf(stderr, "the versions differ\n"), 1;
     /* Each status has a text of its own. */
-    for (uint32_t one = OTP_OK; one <= OTP_NESTED; one++)
-        for (uint32_t other = one + 1; other <= OTP_NESTED + 1; other++)
+    for (uint32_t one = OTP_OK; one <= OTP_TURNED; one++)
+        for (uint32_t other = one + 1; other <= OTP_TURNED + 1; other++)
             if (!strcmp(otp_status_text(one), otp_status_text(other))) return fprintf(stderr, "status %u has no text\n", one), 1;
     return otp_limit(0) != 0 || otp_limit(OTP_LIMIT_EVENTS) == 0;
 }

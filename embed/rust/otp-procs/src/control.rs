@@ -362,16 +362,6 @@ impl Control {
         self.clients.iter().any(|client| matches!(client.follows, Some(Follows::Events(_))))
     }
 
-    /// Whoever follows the process of the first path of each follows that of the second one.
-    pub fn rename(&mut self, renamed: &[(String, String)]) {
-        for client in &mut self.clients {
-            let Some(Follows::Process(path)) = &mut client.follows else { continue };
-            if let Some((_, new)) = renamed.iter().find(|(old, _)| old == path) {
-                path.clone_from(new);
-            }
-        }
-    }
-
     /// Whoever follows the process of this path gets what it has written.
     pub fn tell_of(&mut self, now: u64, path: &str, bytes: &[u8]) {
         let follows = |client: &&mut Peer| matches!(&client.follows, Some(Follows::Process(other)) if other == path);

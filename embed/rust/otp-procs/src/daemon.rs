@@ -24,7 +24,7 @@ use crate::stand_in::Clock;
 use crate::strays;
 use crate::tails::Tails;
 use crate::told::Told;
-use otp_supervision::{CallId, Cause, End, Fault, ProcessId, Reading, SupervisorId, Tree};
+use otp_supervision::{CallId, Cause, End, Fault, Phase, ProcessId, Reading, Supervisor, SupervisorId, Tree};
 use std::collections::{BTreeMap, BTreeSet, VecDeque};
 use std::os::fd::{AsRawFd, OwnedFd};
 use std::os::unix::process::ExitStatusExt;
@@ -115,6 +115,12 @@ pub(crate) struct Untold {
 pub(crate) struct Seen {
     pub starts: u64,
     pub has_ended: bool,
+}
+
+impl Seen {
+    pub fn of(now: &Supervisor) -> Self {
+        Seen { starts: now.starts, has_ended: now.phase == Phase::Ended }
+    }
 }
 
 /// From which reading on the tree may give orders, if it is told nothing before: where that isn't exact, not before it.
@@ -279,11 +285,17 @@ impl Daemon {
     pub(crate) fn lay_out(&mut self, tree: Tree) -> Result<(), Fault> {
         (self.paths, self.nested) = layout_of(&tree)?;
         self.tree = tree.into();
-        (self.told, self.due) = (self.reading, Due::default());
+        self.told = self.reading;
         self.seen = vec![Seen::default(); self.paths.len()];
         self.is_opened = vec![false; self.paths.len()];
-        self.touched = self.tree.supervisors().collect();
+        self.tells_all();
         Ok(())
+    }
+
+    /// Each supervisor was told something.
+    pub(crate) fn tells_all(&mut self) {
+        self.due = Due::default();
+        self.touched = self.tree.supervisors().collect();
     }
 
     /// Runs the tree until its root has ended, and answers the exit status: that of the main process, or how the root has ended.

@@ -149,7 +149,7 @@ impl Daemon {
     /// How a nested supervisor is seen now, if it was started or has ended since it was last looked at.
     fn seen_anew(&mut self, number: SupervisorId) -> Option<(Seen, Supervisor)> {
         let now = self.tree.supervisor(number).ok()?;
-        let seen = Seen { starts: now.starts, has_ended: now.phase == Phase::Ended };
+        let seen = Seen::of(&now);
         (seen != self.seen[number.index()]).then_some((seen, now))
     }
 

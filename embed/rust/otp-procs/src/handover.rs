@@ -3,6 +3,7 @@
 //! Each line is a word and fields. What isn't known is passed over, so that a newer program may say more; without the last line,
 //! `end`, all is refused.
 
+pub mod reopen;
 pub mod replace;
 pub mod resume;
 

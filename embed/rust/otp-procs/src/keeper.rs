@@ -35,6 +35,8 @@ pub(crate) struct Keeper {
     waiting: BTreeSet<Key>,
     /// Those that a client starts, whatever they should wait for.
     forced: BTreeSet<Key>,
+    /// Those that have been started, and weren't stopped by a client since.
+    wanted: BTreeSet<Key>,
     /// Calls of `restart_child` that aren't answered, by their numbers.
     calls: BTreeMap<CallId, Key>,
     /// By the path of a child those that it waits for.
@@ -65,6 +67,7 @@ impl Keeper {
         let kept = std::mem::take(&mut self.kept).into_iter();
         self.kept = kept.filter_map(|(key, kept)| Some((place(key)?, kept))).collect();
         self.waiting = std::mem::take(&mut self.waiting).into_iter().filter_map(&place).collect();
+        self.wanted = std::mem::take(&mut self.wanted).into_iter().filter_map(&place).collect();
         self.forced.clear();
         self.calls.clear();
     }
@@ -82,6 +85,12 @@ impl Keeper {
     /// Goes on with one that fails alone.
     pub fn keep_on(&mut self, key: Key, kept: Kept) {
         self.kept.insert(key, kept);
+        self.wanted.insert(key);
+    }
+
+    /// Goes on with one that runs.
+    pub fn run_on(&mut self, supervisor: SupervisorId, id: Name) {
+        self.wanted.insert((supervisor, id));
     }
 
     /// Goes on with those that wait.
@@ -89,7 +98,13 @@ impl Keeper {
         self.waiting.extend(waiting);
     }
 
-    /// A client has stopped a child: it is left alone.
+    /// A client stops a child.
+    pub fn stop(&mut self, supervisor: SupervisorId, id: Name) {
+        self.release(supervisor, id);
+        self.wanted.remove(&(supervisor, id));
+    }
+
+    /// A child is left alone.
     pub fn release(&mut self, supervisor: SupervisorId, id: Name) {
         self.kept.remove(&(supervisor, id));
         self.waiting.remove(&(supervisor, id));
@@ -180,15 +195,26 @@ impl Daemon {
         true
     }
 
-    /// Whether a start has to wait for others, by the path of its child.
+    /// For what a start has to wait, by the path of its child: for others, or for a client.
     pub(crate) fn has_to_wait(&mut self, process: &Process, path: &str) -> Option<String> {
         let key = (process.supervisor, process.id?);
-        if self.keeper.forced.remove(&key) {
-            return None;
+        if !self.keeper.forced.remove(&key) {
+            if self.is_left_to_clients(key, process.start) {
+                return Some("ctl start".to_string());
+            }
+            if let Some(lacking) = self.lacking(path) {
+                self.keeper.waiting.insert(key);
+                return Some(lacking);
+            }
         }
-        let lacking = self.lacking(path)?;
-        self.keeper.waiting.insert(key);
-        Some(lacking)
+        self.keeper.wanted.insert(key);
+        None
+    }
+
+    /// Whether a child with this start word is started by clients, and none has done so.
+    pub(crate) fn is_left_to_clients(&self, key: Key, start: Name) -> bool {
+        let is_by_hand = self.plans.get(start.as_str()).is_some_and(|plan| plan.by_hand.is_some());
+        is_by_hand && !self.keeper.wanted.contains(&key)
     }
 
     /// The first that a child waits for and that isn't ready.

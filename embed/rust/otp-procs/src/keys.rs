@@ -5,7 +5,7 @@ use crate::subset::{BadLine, Entry, Place, Table, Value};
 use std::collections::BTreeMap;
 
 /// What other supervisors call something, and what it is called here. Letters count in either case.
-const FOREIGN: [(&str, &str); 44] = [
+const FOREIGN: [(&str, &str); 46] = [
     ("directory", "folder"),
     ("workingdirectory", "folder"),
     ("cwd", "folder"),
@@ -48,7 +48,9 @@ const FOREIGN: [(&str, &str); 44] = [
     ("startretries", "intensity of the supervisor in the tree file"),
     ("stopwaitsecs", "shutdown of the child in the tree file"),
     ("timeoutstopsec", "shutdown of the child in the tree file"),
-    ("autostart", "enabled"),
+    ("exitcodes", "normal_status"),
+    ("successexitstatus", "normal_status"),
+    ("restartpreventexitstatus", "normal_status"),
     ("numprocs", "instances"),
 ];
 

@@ -308,6 +308,7 @@ impl Live {
             _ if self.is_unwatched => Reason::error("watchdog"),
             _ if self.is_late => Reason::error("not_ready_in_time"),
             (Some(0), _) => Reason::Normal,
+            (Some(code), _) if self.plan.normal_status.contains(&code) => Reason::Normal,
             (Some(code), _) => Reason::error(&format!("status_{code}")),
             (None, Some(os::SIGKILL)) if self.group.as_ref().is_some_and(Group::is_out_of_memory) => {
                 Reason::error("out_of_memory")

@@ -64,22 +64,31 @@ impl Loaded {
         Side { shapes: &self.shapes, plans: &self.files.plans }
     }
 
-    /// The start word of what is started, or of the child that all processes of a supervisor are.
-    fn word_of(&self, target: &Target) -> Option<Name> {
+    /// The start words of what is started: of a supervisor those of the processes below it.
+    fn words_of(&self, target: &Target) -> Vec<Name> {
         let child = match target {
             Target::Child(path) => {
-                let (supervisor, id) = child_at(&self.shapes, path)?;
-                self.shapes[supervisor.index()].find(id)
+                child_at(&self.shapes, path).and_then(|(supervisor, id)| self.shapes[supervisor.index()].find(id))
             }
-            Target::Processes(path) => self.shapes.iter().find(|shape| shape.path == *path)?.children.first(),
+            Target::Processes(path) => {
+                self.shapes.iter().find(|shape| shape.path == *path).and_then(|shape| shape.children.first())
+            }
         };
-        child.map(|child| child.spec.start)
+        let (mut words, mut pending) = (Vec::new(), Vec::from_iter(child));
+        while let Some(child) = pending.pop() {
+            match child.nested.map(|nested| &self.shapes[nested.index()]) {
+                // It begins with no process.
+                Some(shape) if shape.is_simple() => {}
+                Some(shape) => pending.extend(shape.children.iter().rev()),
+                None => words.push(child.spec.start),
+            }
+        }
+        words
     }
 
     /// What is missing on this machine of what is to be started. One that is started again and again may wait for it.
     pub fn missing(&self, steps: &Steps) -> Option<BadLine> {
-        let targets = steps.starts.iter().cloned().chain(steps.temporary.iter().cloned().map(Target::Child));
-        let words = targets.filter_map(|target| self.word_of(&target));
+        let words = steps.starts.iter().flat_map(|target| self.words_of(target));
         let plans = words.filter_map(|word| self.files.plans.get(word.as_str()).map(|plan| (word, plan)));
         let mut plans = plans.filter(|(_, plan)| plan.retry.is_none());
         plans.find_map(|(word, plan)| Some(BadLine::new(&plan.place, fault_of(word.as_str(), plan)?)))

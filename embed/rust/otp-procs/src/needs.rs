@@ -68,6 +68,12 @@ impl Needs {
             );
             return Err(BadLine::new(place, text));
         }
+        if let Some(place) = plan.by_hand.as_ref().filter(|_| restart == Restart::Temporary) {
+            let text = format!(
+                "[{word}] autostart: child {path} is temporary, and is forgotten where it isn't started; write restart = \"transient\""
+            );
+            return Err(BadLine::new(place, text));
+        }
         let Some((names, place)) = &plan.after else { return Ok(()) };
         if restart == Restart::Temporary {
             let text = format!(

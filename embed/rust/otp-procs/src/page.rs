@@ -157,6 +157,7 @@ impl Daemon {
                 State::at(Standing::Down, format!("down, start {} in", u64::from(kept.times) + 1), due)
             }
             Some(Waits::Held(times)) => State::new(Standing::Down, format!("held, after {times} ends in a row")),
+            Some(Waits::ForClient) => State::new(Standing::Over, "down, ctl start starts it"),
             None => state_of_child(child, live, last.as_ref()),
         };
         Kid {
@@ -184,7 +185,8 @@ fn cut(line: &str) -> String {
 
 fn state_of_supervisor(found: &Supervisor, is_there: bool) -> State {
     match (found.phase, found.is_stopping) {
-        (Phase::Unopened, _) => State::new(Standing::Way, "not started"),
+        // One that was down when the files were read anew is as one that was never started.
+        (Phase::Unopened, _) if found.starts == 0 => State::new(Standing::Way, "not started"),
         (Phase::Runs, true) => State::new(Standing::Way, "stops"),
         (Phase::Runs, false) if is_there => State::new(Standing::Up, "runs"),
         _ => State::new(Standing::Down, "down"),

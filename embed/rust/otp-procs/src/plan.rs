@@ -13,7 +13,7 @@ use std::path::PathBuf;
 use std::rc::Rc;
 
 /// The keys of a table, in the order in which README tells them.
-pub const KEYS: [&str; 38] = [
+pub const KEYS: [&str; 40] = [
     "command",
     "folder",
     "env",
@@ -45,11 +45,13 @@ pub const KEYS: [&str; 38] = [
     "watchdog",
     "ready_blocks",
     "after",
+    "autostart",
     "restart_after",
     "restart_always",
     "give_up_after",
     "on_give_up",
     "ignored_status",
+    "normal_status",
     "signal",
     "signal_to",
 ];
@@ -166,12 +168,16 @@ pub struct Plan {
     pub is_ready_later: bool,
     /// Those that have to be ready before it is started, and where the file says so.
     pub after: Option<(Vec<String>, Place)>,
+    /// A client starts it, and not its supervisor; where the file says so.
+    pub by_hand: Option<Place>,
     /// It fails alone, and is started again later, and where the file says so.
     pub retry: Option<Retry>,
     /// Where that stands.
     pub retry_place: Option<Place>,
     /// A start that ends with this status, before it is up, is ignored.
     pub ignored_status: Option<i32>,
+    /// An end with one of these statuses is normal, as with 0.
+    pub normal_status: Vec<i32>,
     /// The signal that asks it to shut down, with its name.
     pub signal: (&'static str, i32),
     /// Who gets that signal.
@@ -183,7 +189,8 @@ pub struct Plan {
 }
 
 /// Keys that count at once for a process that runs; the others are of its start.
-pub const AT_ONCE: [&str; 5] = ["after", "restart_after", "restart_always", "give_up_after", "on_give_up"];
+pub const AT_ONCE: [&str; 7] =
+    ["after", "autostart", "restart_after", "restart_always", "give_up_after", "on_give_up", "normal_status"];
 
 impl Plan {
     /// The keys that differ in another plan, or stand in one of them alone.
@@ -203,6 +210,8 @@ impl Plan {
         let said = self.said.iter().filter(is_late).chain(newer.said.iter().filter(|entry| !is_late(entry)));
         Plan {
             after: newer.after.clone(),
+            by_hand: newer.by_hand.clone(),
+            normal_status: newer.normal_status.clone(),
             retry: newer.retry,
             retry_place: newer.retry_place.clone(),
             said: said.map(|(key, value)| (key.clone(), value.clone())).collect(),
@@ -283,9 +292,14 @@ fn plan_of(keys: &Keys<'_>) -> Result<Plan, BadLine> {
         watchdog: keys.within("watchdog", 1, i64::from(u32::MAX))?.map(|time| time as u64),
         is_ready_later: !keys.truth_or("ready_blocks", true)?,
         after: keys.texts("after")?.map(|(place, names)| (names.to_vec(), place.clone())),
+        by_hand: match keys.find("autostart") {
+            Some(entry) if !keys.truth("autostart")? => Some(entry.place.clone()),
+            _ => None,
+        },
         retry: retry_of(keys)?,
         retry_place: keys.find("restart_after").map(|entry| entry.place.clone()),
         ignored_status: keys.number("ignored_status", 255)?.map(|status| status as i32),
+        normal_status: statuses_of(keys)?,
         signal: signal_of(keys)?,
         signal_to: match keys.text("signal_to")? {
             None | Some((_, "group")) => SignalTo::Group,
@@ -443,8 +457,22 @@ fn retry_of(keys: &Keys<'_>) -> Result<Option<Retry>, BadLine> {
         Some((_, "escalate")) => OnGiveUp::Escalate,
         Some((place, _)) => return keys.bad(place, "on_give_up is \"hold\" or \"escalate\""),
     };
-    let give_up_after = keys.within("give_up_after", 1, i64::from(u32::MAX))?.map(|count| count as u32);
+    let give_up_after = keys.number("give_up_after", u32::MAX)?.map(|count| count as u32);
     Ok(Some(Retry { first, most, is_always: keys.truth("restart_always")?, give_up_after, on_give_up }))
+}
+
+/// Statuses besides 0 that are no error.
+fn statuses_of(keys: &Keys<'_>) -> Result<Vec<i32>, BadLine> {
+    let Some((place, texts)) = keys.texts("normal_status")? else { return Ok(Vec::new()) };
+    let mut statuses = Vec::new();
+    for text in texts {
+        let Ok(status) = text.parse::<u8>() else {
+            let text = format!("normal_status has strings with a status, as [\"2\", \"143\"], and {text:?} is none");
+            return keys.bad(place, text);
+        };
+        statuses.push(i32::from(status));
+    }
+    Ok(statuses)
 }
 
 fn signal_of(keys: &Keys<'_>) -> Result<(&'static str, i32), BadLine> {
@@ -479,7 +507,8 @@ mod tests {
         let text = "[a]\ncommand = ['x', 'y']\nfolder = '/'\nenv = ['A=b=c', 'D=']\nclear_env = true\noutput = 'file'\n\
                     output_file = '/tmp/x'\nready = 'notify'\nnotify_fd = 4\nready_within = 100\nignored_status = 7\n\
                     signal = 'SIGINT'\nsignal_to = 'process'\n[b]\ncommand = ['x']\nready = 'line'\nready_line = 'up'\n\
-                    ready_within = 'infinity'\noutput = 'log'\n[c]\ncommand = ['x']\nready = 'after'\nready_after = 5\n";
+                    ready_within = 'infinity'\noutput = 'log'\n[c]\ncommand = ['x']\nready = 'after'\nready_after = 5\n\
+                    autostart = false\nnormal_status = ['2', '143']\n";
         let plans = read("f", text).unwrap();
         let a = &plans["a"];
         assert_eq!(a.env, [("A".into(), "b=c".into()), ("D".into(), String::new())]);
@@ -488,7 +517,8 @@ mod tests {
         assert_eq!((a.signal, a.signal_to, a.ignored_status), (("INT", 2), SignalTo::Process, Some(7)));
         assert!(a.clear_env);
         assert_eq!((&plans["b"].ready, plans["b"].ready_within), (&Ready::Line("up".into()), None));
-        assert_eq!(plans["c"].ready, Ready::After(5));
+        let c = &plans["c"];
+        assert_eq!((&c.ready, c.by_hand.is_some(), &c.normal_status[..]), (&Ready::After(5), true, &[2, 143][..]));
     }
 
     #[test]
@@ -546,7 +576,10 @@ mod tests {
             ("command = ['x']\nrestart_after = ['1m', '1s']", 3),
             ("command = ['x']\nrestart_always = true", 3),
             ("command = ['x']\nrestart_after = '1s'\non_give_up = 'hold'", 4),
-            ("command = ['x']\nrestart_after = '1s'\ngive_up_after = 0", 4),
+            ("command = ['x']\nrestart_after = '1s'\ngive_up_after = -1", 4),
+            ("command = ['x']\nautostart = 1", 3),
+            ("command = ['x']\nnormal_status = 2", 3),
+            ("command = ['x']\nnormal_status = ['256']", 3),
             ("command = ['x']\nready_blocks = 1", 3),
             ("command = ['x']\nafter = 'x'", 3),
             ("command = ['x']\nready = 'after'", 3),

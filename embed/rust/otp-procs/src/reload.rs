@@ -1,15 +1,14 @@
 //! `ctl reload`: the files are read anew, and the tree goes on as they are now, while the processes of children that stay run on.
 //!
 //! All is read and tested first. Then what is to go is stopped by calls on the tree that runs, last started first. Once nothing is
-//! under way the new tree takes the place of the old one within one turn (`reload/exchange.rs`): each start that it orders is
-//! answered by the process that runs, or with `ignore`. At last it is called for what is to be started, in start order.
+//! under way the tree goes on under the new files, within one turn (`reload/exchange.rs`). At last it is called for what is to be
+//! started, in start order.
 
 pub mod exchange;
 pub mod shape;
 pub mod steps;
 
 use crate::daemon::{Daemon, Untold, Waiter};
-use crate::live::Live;
 use crate::loading::{Loaded, Sources};
 use crate::log::{Class, Record};
 use crate::os;
@@ -285,7 +284,7 @@ impl Daemon {
     }
 
     /// A child by its path: its supervisor, and its id.
-    fn child_of(&self, path: &str) -> Option<(SupervisorId, Name)> {
+    pub(crate) fn child_of(&self, path: &str) -> Option<(SupervisorId, Name)> {
         let (above, id) = split_path(path);
         let number = self.paths.iter().position(|known| known == above)?;
         Some((SupervisorId::new(number as u32), Name::new(id).ok()?))
@@ -330,16 +329,19 @@ impl Daemon {
     /// The new files take the place of those that run. Nothing is changed where that is refused.
     fn exchange(&mut self) -> Result<(), String> {
         let Some(reload) = &self.reload else { return Ok(()) };
-        let Goal::Files(loaded, _) = &reload.goal else { return Err(self.replace_program(reload.token)) };
-        let is_new = reload.steps.is_new_tree;
-        let opened = if is_new { Some(self.open_anew(loaded, &reload.steps)?) } else { None };
+        if matches!(reload.goal, Goal::Program) {
+            return Err(self.replace_program(reload.token));
+        }
         let Some(mut reload) = self.reload.take() else { return Ok(()) };
         let Goal::Files(loaded, _) = &mut reload.goal else { return Ok(()) };
+        if reload.steps.is_new_tree
+            && let Err(text) = self.change_tree(loaded, &reload.steps)
+        {
+            self.reload = Some(reload);
+            return Err(text);
+        }
         self.plans = std::mem::take(&mut loaded.files.plans);
         self.keeper.after = std::mem::take(&mut loaded.needs.after);
-        if let Some(opened) = opened {
-            self.take_over(opened, loaded).map_err(|fault| fault.to_string())?;
-        }
         (self.text, self.shapes) = (std::mem::take(&mut loaded.files.tree), std::mem::take(&mut loaded.shapes));
         self.take_at_once();
         reload.calls = self.calls_of(&reload);
@@ -353,10 +355,7 @@ impl Daemon {
         let shapes = &self.shapes;
         self.unstarted.retain(|path| child_at(shapes, path).is_some());
         self.go_on();
-        // A process that begins may be on its way into its folder, which is empty till then.
-        if let Some(groups) = self.groups.as_ref().filter(|_| self.live.values().all(Live::has_begun)) {
-            groups.clear();
-        }
+        self.clear_groups();
         Ok(())
     }
 

@@ -52,11 +52,10 @@ impl Run<'_> {
 
     /// The tree that it began with, where the log has that: it was reloaded then.
     pub fn first_tree(&self) -> Option<String> {
-        let mut lines = self.lines.iter().filter(|(_, line)| line.contains("\"event\":\"reload\""));
+        let mut lines = self.lines.iter().filter(|(_, line)| line.contains("\"from_text\":"));
         lines.find_map(|(_, line)| {
-            fields_of(line)
-                .filter(|fields| fields.get("event").is_some_and(|event| event == "reload"))?
-                .remove("from_text")
+            let is_reload = |event: &String| event == "reload" || event == "change";
+            fields_of(line).filter(|fields| fields.get("event").is_some_and(is_reload))?.remove("from_text")
         })
     }
 
@@ -209,9 +208,15 @@ fn play(tree: &mut Tree, fields: &BTreeMap<String, String>, played: &mut Played)
         if let Some(order) = next(tree)? {
             return Err(format!("the tree orders {order} before this"));
         }
+        // Of a program that was replaced, or that is older.
         if event == "reload" {
             *tree = Tree::open(fields.get("tree_text").ok_or("no tree")?).map_err(|error| error.to_string())?;
             tree.tick(reading).map_err(|fault| fault.to_string())?;
+            played.reloads += 1;
+            return Ok(());
+        }
+        if event == "change" {
+            tree.change(fields.get("tree_text").ok_or("no tree")?).map_err(|error| error.to_string())?;
             played.reloads += 1;
             return Ok(());
         }

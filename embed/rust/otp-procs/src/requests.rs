@@ -254,7 +254,7 @@ impl Daemon {
                 self.call(start, waiter);
             }
             Wish::Stop => {
-                self.keeper.release(supervisor, id);
+                self.keeper.stop(supervisor, id);
                 self.unstarted.remove(path.trim_start_matches('/'));
                 // Who asks for a stop last is not told that it is done, and then sees the start of an earlier restart.
                 if let Some(restart) = self.restart_of(&start) {

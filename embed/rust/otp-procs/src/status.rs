@@ -44,7 +44,7 @@ fn words_of(supervisor: &Supervisor) -> String {
         let _ = write!(words, "  {} starts", supervisor.starts);
     }
     if let Some(cause) = supervisor.cause {
-        let when = if supervisor.phase == Phase::Ended { "ended" } else { "last ended" };
+        let when = if supervisor.phase == Phase::Runs { "last ended" } else { "ended" };
         let _ = write!(words, "  {when}: {cause}");
     }
     if supervisor.is_stopping {
@@ -128,6 +128,8 @@ pub(crate) enum Waits {
     Until(u64, Kept),
     /// It has ended so often in a row that it is left down.
     Held(u32),
+    /// A client has to start it.
+    ForClient,
 }
 
 impl Daemon {
@@ -136,6 +138,9 @@ impl Daemon {
         if self.keeper.is_waiting(supervisor, id) {
             let path = format!("{}{id}", self.paths.get(supervisor.index()).map_or("", String::as_str));
             return self.lacking(&path).map(Waits::For);
+        }
+        if self.is_left_to_clients((supervisor, id), child.spec.start) {
+            return Some(Waits::ForClient);
         }
         let kept = self.keeper.of(supervisor, id)?;
         match kept.due {
@@ -213,6 +218,7 @@ fn add_child(
                 format!("down, start {} in {left}", u64::from(kept.times) + 1)
             }
             Some(Waits::Held(times)) => format!("held, after {times} ends in a row"),
+            Some(Waits::ForClient) => "down, ctl start starts it".to_string(),
             None => words_of_child(child, live, live.is_some_and(|live| daemon.is_changed(live)), daemon.reading),
         };
         let _ = writeln!(text, "{name:<COLUMN$} {words}");
@@ -324,6 +330,7 @@ fn add_child_json(daemon: &mut Daemon, supervisor: SupervisorId, child: &Child, 
             let _ = write!(text, ",\"ends_in_a_row\":{},\"start_in_ms\":{left}", kept.times);
         }
         Some(Waits::Held(times)) => drop(write!(text, ",\"ends_in_a_row\":{times},\"held\":true")),
+        Some(Waits::ForClient) => text.push_str(",\"autostart\":false"),
         None => {}
     }
     if let Some(nested) = child.nested {

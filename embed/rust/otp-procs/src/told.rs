@@ -10,6 +10,8 @@ pub enum CallKind {
     Restart(Name),
     /// `start_child` under `simple_one_for_one`.
     StartDynamic,
+    /// `delete_child`.
+    Delete(Name),
     /// `terminate_child` by id.
     Terminate(Name),
     /// `terminate_child` by process.
@@ -26,6 +28,7 @@ impl CallKind {
         match self {
             CallKind::Restart(_) => "restart_child",
             CallKind::StartDynamic => "start_child",
+            CallKind::Delete(_) => "delete_child",
             CallKind::Terminate(_) => "terminate_child",
             CallKind::TerminateProcess(_) => "terminate_process",
             CallKind::Which => "which_children",
@@ -38,6 +41,7 @@ impl CallKind {
         Some(match word {
             "restart_child" => CallKind::Restart(id?),
             "start_child" => CallKind::StartDynamic,
+            "delete_child" => CallKind::Delete(id?),
             "terminate_child" => CallKind::Terminate(id?),
             "terminate_process" => CallKind::TerminateProcess(number?),
             "which_children" => CallKind::Which,
@@ -51,6 +55,7 @@ impl CallKind {
         Ok(match self {
             CallKind::Restart(id) => tree.restart_child(reading, supervisor, id)?.number(),
             CallKind::StartDynamic => tree.start_dynamic(reading, supervisor)?.number(),
+            CallKind::Delete(id) => tree.delete_child(reading, supervisor, id)?.number(),
             CallKind::Terminate(id) => tree.terminate_child(reading, supervisor, id)?.number(),
             CallKind::TerminateProcess(number) => tree.terminate_process(reading, supervisor, number)?.number(),
             CallKind::Which => tree.which_children(reading, supervisor)?.number(),
@@ -109,7 +114,9 @@ impl Told {
             Told::Call(supervisor, kind) => {
                 let line = event("call").text("path", path).text("call", kind.as_str());
                 let line = match kind {
-                    CallKind::Restart(id) | CallKind::Terminate(id) => line.text("id", id.to_string()),
+                    CallKind::Restart(id) | CallKind::Delete(id) | CallKind::Terminate(id) => {
+                        line.text("id", id.to_string())
+                    }
                     CallKind::TerminateProcess(number) => line.number("number", number.number()),
                     _ => line,
                 };

@@ -129,6 +129,11 @@ fn user_of<'a>(keys: &Keys<'a>) -> Result<(Option<Named>, Option<&'a Place>), Ba
         }
         Value::Text(name) => match os::user_named(name) {
             Ok(Some(user)) => (user.uid, Some(user)),
+            // Other programs write a number as they write a name.
+            Ok(None) if name.parse::<u32>().is_ok() => {
+                let uid = name.parse().unwrap_or_default();
+                (uid, os::user_numbered(uid).unwrap_or(None))
+            }
             Ok(None) => {
                 let text =
                     format!("user: there is no user {name:?} on this machine; write another, or a number with group");
@@ -270,6 +275,7 @@ mod tests {
             ("user = true", "f:3: [a] user is a name, or a number"),
             ("user = -1", "f:3: [a] user is a name, or a number"),
             ("user = 3999999999", "write group too"),
+            ("user = '3999999999'", "write group too"),
             ("group = 'no-such-group-here'", "f:3: [a] there is no group"),
             ("groups = ['no-such-group-here']", "there is no group"),
             ("umask = 22", "octal digits"),

@@ -93,6 +93,75 @@ fn a_normal_end_is_the_last_unless_it_is_always_restarted() {
 }
 
 #[test]
+fn one_that_is_never_restarted_is_held_at_once_and_some_statuses_are_normal() {
+    let tree = [child("once", TRANSIENT), child("fine", TRANSIENT), child("a", "")].concat();
+    let commands = format!(
+        "[a]\n{STEADY}[once]\ncommand = ['false']\nrestart_after = '10ms'\ngive_up_after = 0\n\
+         [fine]\ncommand = ['sh', '-c', 'exit 143']\nnormal_status = ['2', '143']\n"
+    );
+    let mut daemon = Daemon::start(&tree, &commands);
+    daemon.wait_for("held", |line| line.get("remark") == "held");
+    let exit = daemon.wait_for("its end", |line| line.get("event") == "exit" && line.get("path") == "fine");
+    assert_eq!((exit.get("reason"), exit.get("ended")), ("normal", "status 143"));
+    let (_, text) = daemon.ctl(&["status"]);
+    assert!(text.contains("held, after 1 ends in a row") && text.contains("0 of 1 restarts"), "{text}");
+    assert!(daemon.ctl(&["start", "once"]).0);
+    wait_until("it was started again", || starts(&daemon, "once").len() == 2);
+    assert_eq!((starts(&daemon, "fine").len(), daemon.stop()), (1, 0));
+    daemon.replay();
+}
+
+#[test]
+fn one_that_clients_start_is_left_alone_until_then() {
+    let tree = [
+        "strategy = \"one_for_all\"\nintensity = 9\n".to_string(),
+        child("job", TRANSIENT),
+        child("b", ""),
+        child("a", ""),
+    ];
+    let commands = format!("[a]\n{STEADY}[job]\n{STEADY}autostart = false\n[b]\n{STEADY}after = ['job']\n");
+    let mut daemon = Daemon::start(&tree.concat(), &commands);
+    daemon.wait_ready();
+    let (_, text) = daemon.ctl(&["status"]);
+    assert!(text.contains("down, ctl start starts it") && text.contains("waits for job"), "{text}");
+    assert!(daemon.ctl(&["status", "--json"]).1.contains("\"autostart\":false"));
+    let crash = |path: &str| {
+        let count = starts(&daemon, path).len();
+        send(starts(&daemon, path).last().unwrap().number("pid") as i32, 9);
+        wait_until("it is started again", || {
+            starts(&daemon, path).len() > count && daemon.ctl(&["wait", path, "up"]).0
+        });
+    };
+    // Who starts it anew with the others starts it as little.
+    crash("a");
+    assert!(daemon.ctl(&["status", "job"]).1.contains("down, ctl start starts it"));
+    assert!(daemon.ctl(&["start", "job"]).0 && daemon.ctl(&["wait", "b", "up"]).0);
+    crash("job");
+    crash("a");
+    assert!(daemon.ctl(&["wait", "job", "up"]).0);
+    assert!(daemon.ctl(&["reexec"]).0);
+    crash("job");
+    assert!(daemon.ctl(&["stop", "job"]).0);
+    crash("a");
+    assert!(daemon.ctl(&["status", "job"]).1.contains("down, ctl start starts it"));
+    // The files are read anew: one that is new isn't started either, and one that clients have to start no more is.
+    let more = [tree.concat(), child("new", TRANSIENT)].concat();
+    fs::write(daemon.folder.join("tree.toml"), more).unwrap();
+    fs::write(
+        daemon.folder.join("commands.toml"),
+        format!("[a]\n{STEADY}[job]\n{STEADY}[b]\n{STEADY}[new]\n{STEADY}autostart = false\n"),
+    )
+    .unwrap();
+    let (is_done, text) = daemon.ctl(&["reload"]);
+    let wanted = "now     job: autostart\nnow     b: after\nlater   new: new, and ctl start starts it\nstart   job\n";
+    assert!(is_done && text == wanted, "{text}");
+    assert!(daemon.ctl(&["status", "job"]).0 && daemon.ctl(&["start", "new"]).0);
+    assert_eq!(daemon.stop(), 0);
+    assert_eq!(daemon.left(), []);
+    daemon.replay();
+}
+
+#[test]
 fn a_slow_one_blocks_nobody_but_those_who_wait_for_it() {
     let folder = new_folder();
     assert!(Command::new("mkfifo").arg(folder.join("fifo")).status().unwrap().success());
@@ -152,6 +221,7 @@ fn what_does_not_go_together_is_refused_with_its_line() {
         ("after = ['a']\n", "", "", "c:3: [a] after: child a would wait for itself"),
         ("after = ['b']\n", "after = ['/a']\n", "", "would wait for itself, by b"),
         ("after = ['b']\n", "", "restart = \"temporary\"", "c:3: [a] after: child a is temporary"),
+        ("autostart = false\n", "", "restart = \"temporary\"", "c:3: [a] autostart: child a is temporary"),
     ] {
         let auto = if tree_a.contains("significant") { "auto_shutdown = \"any_significant\"\n" } else { "" };
         fs::write(folder.join("t"), format!("{auto}{}{}", child("a", tree_a), child("b", ""))).unwrap();

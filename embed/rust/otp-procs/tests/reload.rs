@@ -137,7 +137,7 @@ fn another_command_counts_at_the_next_start_or_by_a_restart() {
     assert_eq!(reload(&daemon, &[]), "later   a: command, env\n");
     assert_eq!(status(&daemon).1, before);
     // The tree is the same one, so that its counts and numbers go on.
-    assert!(!daemon.log()[log..].iter().any(|line| line.get("event") == "reload"));
+    assert!(!daemon.log()[log..].iter().any(|line| line.get("event") == "change"));
     assert!(status(&daemon).0.contains("runs older commands"), "{}", status(&daemon).0);
     let (_, json) = daemon.ctl(&["status", "--json"]);
     assert_eq!(json.matches("\"changed\":true").count(), 1, "{json}");
@@ -237,19 +237,116 @@ fn what_is_down_stays_down() {
 }
 
 #[test]
-fn a_new_temporary_child_keeps_nobody_waiting() {
+fn a_new_temporary_child_is_started_as_others_are() {
     let daemon = Daemon::start(&child("a", ""), COMMANDS);
     daemon.wait_ready();
     let before = status(&daemon).1;
     let job = "[[child]]\nid = 'job'\nstart = 'job'\nrestart = \"temporary\"\n";
     let bad = "[[child]]\nid = 'bad'\nstart = 'bad'\nrestart = \"temporary\"\n";
-    write(&daemon, &[child("n", "").as_str(), job, bad, &child("a", "")].concat());
-    let slow = "[job]\ncommand = ['sleep', '1000']\nready = 'notify'\n[bad]\ncommand = ['false']\n";
-    write_commands(&daemon, &format!("{COMMANDS}{slow}"));
-    assert_eq!(reload(&daemon, &[]), "start   job\nstart   bad\nstart   n\n");
-    let (text, after) = status(&daemon);
-    assert!(after["a"] == before["a"] && after.contains_key("n") && text.contains("not ready"), "{text}");
-    daemon.wait_for("its end", |line| line.get("event") == "exit" && line.get("path") == "bad");
+    write(&daemon, &[child("n", "").as_str(), job, &child("a", "")].concat());
+    let more = "[job]\ncommand = ['sh', '-c', 'echo >&3; exec sleep 1000']\nready = 'notify'\n[bad]\ncommand = ['false']\n\
+                ready = 'after'\nready_after = 60000\n";
+    write_commands(&daemon, &format!("{COMMANDS}{more}"));
+    assert_eq!(reload(&daemon, &[]), "start   n\nstart   job\n");
+    let after = status(&daemon).1;
+    assert!(after["a"] == before["a"] && after.contains_key("n") && after.contains_key("job"), "{after:?}");
+    // One that doesn't start is told of, and stays down until the next reload.
+    write(&daemon, &[bad, job, &child("a", "")].concat());
+    let (is_done, text) = daemon.ctl(&["reload"]);
+    let wanted = "stop    n\nstart   bad\nfailed  bad: the start failed: error:status_1\n";
+    assert!(!is_done && text.ends_with(wanted), "{text}");
+    assert_eq!(status(&daemon).1["job"], after["job"]);
+    // With other commands it is stopped, forgotten by the rules, and there again.
+    write(&daemon, &[job, &child("a", "")].concat());
+    write_commands(&daemon, &format!("{COMMANDS}{}", more.replace("1000", "1001")));
+    assert_eq!(reload(&daemon, &["--restart"]), "restart job: command\nforget  bad\n");
+    let last = status(&daemon).1;
+    assert!(last["job"] != after["job"] && last["a"] == before["a"] && last.len() == 2, "{last:?}");
+    end(daemon);
+}
+
+/// What `status` says of the restarts of a supervisor, as `2 of 5`.
+fn restarts(daemon: &Daemon, path: &str) -> String {
+    let text = status(daemon).0;
+    let line = text
+        .lines()
+        .find(|line| if path.is_empty() { !line.starts_with(' ') } else { line.trim_start().starts_with(path) });
+    let words: Vec<&str> = line.unwrap().split_whitespace().collect();
+    let at = words.iter().position(|word| *word == "restarts").unwrap();
+    words[at - 3..at].join(" ")
+}
+
+#[test]
+fn restarts_and_numbers_go_on() {
+    let tree = |intensity: u64, of_pool: u64, more: &str| {
+        let pool = pool("p", &format!("intensity = {of_pool}\nperiod = 3600"), &["x", "y"]);
+        format!("intensity = {intensity}\nperiod = 3600\n{}{pool}{more}", child("a", ""))
+    };
+    let daemon = Daemon::start(&tree(5, 5, ""), COMMANDS);
+    daemon.wait_ready();
+    let crash = |path: &str| {
+        let pid = status(&daemon).1[path];
+        send(pid, KILL);
+        wait_until("it is restarted", || status(&daemon).1.get(path).is_some_and(|other| *other != pid));
+    };
+    let number = |path: &str| {
+        let line = status(&daemon).0.lines().find(|line| line.trim_start().starts_with(path)).unwrap().to_string();
+        line.split_whitespace().find_map(|word| word.strip_prefix('#')).unwrap().parse::<u64>().unwrap()
+    };
+    for path in ["a", "a", "a", "p/x", "p/x"] {
+        crash(path);
+    }
+    assert_eq!((restarts(&daemon, "").as_str(), restarts(&daemon, "p/").as_str()), ("3 of 5", "2 of 5"));
+    let (before, of_a) = (status(&daemon).1, number("a "));
+    write(&daemon, &tree(7, 5, &child("n", "")));
+    assert_eq!(reload(&daemon, &[]), "now     /: intensity 5 -> 7\nstart   n\n");
+    assert_eq!((restarts(&daemon, "").as_str(), restarts(&daemon, "p/").as_str()), ("3 of 7", "2 of 5"));
+    assert_eq!((number("a "), status(&daemon).1["a"]), (of_a, before["a"]));
+    // Each number is given once, so the new one has the next.
+    let last = status(&daemon).0.matches('#').count() as u64;
+    assert!(number("n ") > of_a && number("n ") >= last);
+    // A lowered intensity ends nothing: so many of the last restarts count on. One more is too many.
+    write(&daemon, &tree(2, 1, &child("n", "")));
+    assert_eq!(reload(&daemon, &[]), "now     /: intensity 7 -> 2\nnow     p/: intensity 5 -> 1\n");
+    assert_eq!((restarts(&daemon, "").as_str(), restarts(&daemon, "p/").as_str()), ("2 of 2", "1 of 1"));
+    assert_eq!(status(&daemon).1["a"], before["a"]);
+    write(&daemon, &tree(9, 1, ""));
+    assert_eq!(reload(&daemon, &[]), "stop    n\nnow     /: intensity 2 -> 9\n");
+    crash("p/x");
+    assert_eq!(restarts(&daemon, "p/"), "0 of 1");
+    assert_eq!(restarts(&daemon, ""), "3 of 9");
+    // After a new program they begin anew, and a reload goes on from there.
+    assert!(daemon.ctl(&["reexec"]).0);
+    assert_eq!(restarts(&daemon, ""), "0 of 9");
+    crash("a");
+    write(&daemon, &tree(8, 1, ""));
+    assert_eq!(reload(&daemon, &[]), "now     /: intensity 9 -> 8\n");
+    assert_eq!(restarts(&daemon, ""), "1 of 8");
+    end(daemon);
+}
+
+#[test]
+fn a_new_supervisor_is_started_as_a_whole_and_tried_again() {
+    let daemon = Daemon::start(&child("a", ""), COMMANDS);
+    daemon.wait_ready();
+    write_program(&daemon.folder.join("program"), "#!/bin/sh\nexit 3\n");
+    let commands = format!("{COMMANDS}[new]\ncommand = ['{}/program']\nready = 'notify'\n", daemon.folder.display());
+    let new = "[[child]]\nid = 'p'\nstart = 's'\n[child.tree]\n[[child.tree.child]]\nid = 'x'\nstart = 's'\n\
+               [[child.tree.child]]\nid = 'y'\nstart = 'new'\n";
+    write(&daemon, &[new.to_string(), child("a", "")].concat());
+    write_commands(&daemon, &commands);
+    let (is_done, text) = daemon.ctl(&["reload"]);
+    assert!(!is_done && text.contains("start   p\nfailed  p: the start failed: "), "{text}");
+    assert_eq!(status(&daemon).1.keys().collect::<Vec<_>>(), ["a"]);
+    // Nothing below it may be missing on this machine.
+    write_commands(&daemon, &commands.replace("/program", "/none"));
+    let (is_done, text) = daemon.ctl(&["reload"]);
+    assert!(!is_done && text.contains("nothing is changed: ") && text.contains("[new] there is no program"), "{text}");
+    write_program(&daemon.folder.join("program"), "#!/bin/sh\necho >&3\nexec sleep 1000\n");
+    write_commands(&daemon, &commands);
+    assert_eq!(reload(&daemon, &[]), "start   p\n");
+    assert_eq!(status(&daemon).1.keys().collect::<Vec<_>>(), ["a", "p/x", "p/y"]);
+    assert_eq!(reload(&daemon, &[]), "nothing changes\n");
     end(daemon);
 }
 
@@ -548,7 +645,7 @@ fn who_looks_at_the_tree_sees_the_new_one() {
     assert!(metrics.contains("otp_procs_starts_total{path=\"b\"} 2"), "{metrics}");
     let (_, page) = daemon.ctl(&["page"]);
     assert!(page.contains("p/") && page.contains(&status(&daemon).1["b"].to_string()));
-    assert!(daemon.ctl(&["events"]).1.contains("\"event\":\"reload\""));
+    assert!(daemon.ctl(&["events"]).1.contains("\"event\":\"change\""));
     assert!(daemon.ctl(&["wait", "p/x", "up"]).0 && !daemon.ctl(&["wait", "a", "up"]).0);
     assert!(daemon.ctl(&["stop", "p/x"]).0 && daemon.ctl(&["restart", "b"]).0);
     end(daemon);

@@ -110,6 +110,81 @@ impl std::error::Error for OpenError {
     }
 }
 
+/// Why a tree doesn't go on under another file. It is then as it was. A supervisor that is named is one of the tree that runs.
+#[derive(Clone, Debug, PartialEq, Eq)]
+#[non_exhaustive]
+pub enum ChangeError {
+    /// The tree file is refused.
+    Refused(TreeFault),
+    /// Orders of this supervisor wait, or it starts or stops children. Take all orders, and make the call again once nothing is under
+    /// way.
+    Busy(SupervisorId),
+    /// A child of this supervisor that the file doesn't have, or has with a tree or without one where it was otherwise, has a process
+    /// still; or so has this supervisor itself. Terminate it first.
+    Running(SupervisorId),
+    /// This supervisor would become a `simple_one_for_one`, or cease to be one, and has children: terminate it first. The root can't be
+    /// terminated.
+    Turned(SupervisorId),
+    /// The file has a start word of two points and a number, as this crate makes them, and the tree has children with numbers of their
+    /// own ([`ChildSpec::tag`](crate::ChildSpec::tag)).
+    Word,
+    /// A period of a draft isn't whole seconds.
+    Period,
+    /// 2^62 events or process numbers: the tree takes no more, ever.
+    Spent,
+    /// Memory was refused. The same call may be made again.
+    Memory,
+    /// The library answers a status that its header doesn't list for this call: library and crate don't belong together.
+    Unknown(u32),
+}
+
+impl ChangeError {
+    /// What a status says that isn't 0; the fault is one of a file with this text.
+    pub(crate) fn of(status: u32, fault: &RawFault, text: &[u8]) -> Self {
+        let supervisor = SupervisorId::new(fault.table);
+        match status {
+            sys::MEMORY => ChangeError::Memory,
+            sys::SPENT => ChangeError::Spent,
+            sys::BAD_TREE => ChangeError::Refused(TreeFault::from_raw(fault, text)),
+            sys::BUSY => ChangeError::Busy(supervisor),
+            sys::RUNNING => ChangeError::Running(supervisor),
+            sys::TURNED => ChangeError::Turned(supervisor),
+            status => ChangeError::Unknown(status),
+        }
+    }
+}
+
+impl fmt::Display for ChangeError {
+    fn fmt(&self, f: &mut fmt::Formatter<'_>) -> fmt::Result {
+        match self {
+            ChangeError::Refused(fault) => write!(f, "tree refused: {fault}"),
+            ChangeError::Busy(it) => write!(f, "orders of supervisor {it} wait, or it starts or stops children"),
+            ChangeError::Running(it) => {
+                write!(f, "supervisor {it}, or a child of it, is gone or of another kind, and has a process still")
+            }
+            ChangeError::Turned(it) => {
+                write!(f, "supervisor {it} has children, and can't become simple_one_for_one, nor cease to be one")
+            }
+            ChangeError::Word => {
+                f.write_str("a start word of two points and a number may be another one of the tree's")
+            }
+            ChangeError::Period => f.write_str("a period is whole seconds"),
+            ChangeError::Spent => f.write_str("the tree has no more numbers of events or processes"),
+            ChangeError::Memory => f.write_str("memory was refused; the call may be made again"),
+            ChangeError::Unknown(status) => write!(f, "the library answers status {status}"),
+        }
+    }
+}
+
+impl std::error::Error for ChangeError {
+    fn source(&self) -> Option<&(dyn std::error::Error + 'static)> {
+        match self {
+            ChangeError::Refused(fault) => Some(fault),
+            _ => None,
+        }
+    }
+}
+
 /// What is wrong in a tree file, and where: the fault for which it is refused, which is the first.
 #[derive(Clone, Debug, PartialEq, Eq)]
 #[non_exhaustive]

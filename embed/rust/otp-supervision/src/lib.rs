@@ -90,7 +90,7 @@ mod watch;
 pub use call::{Answer, Call, ChildLine, ChildProcess, Counts, FromAnswer, Refusal, Reply, SpecFault};
 pub use clock::{Clock, Reading};
 pub use draft::Draft;
-pub use fault::{Fault, FaultPlace, OpenError, TreeFault};
+pub use fault::{ChangeError, Fault, FaultPlace, OpenError, TreeFault};
 pub use ids::{CallId, ProcessId, SupervisorId};
 pub use look::{Child, ChildState, EndCause, Limits, Phase, Supervisor};
 pub use name::{BadWord, Name, Reason, Text};

@@ -16,6 +16,9 @@ pub const BAD_READING: u32 = 7;
 pub const BAD_TREE: u32 = 11;
 pub const NO_SUPERVISOR: u32 = 12;
 pub const NESTED: u32 = 13;
+pub const BUSY: u32 = 14;
+pub const RUNNING: u32 = 15;
+pub const TURNED: u32 = 16;
 
 /// A handle as C sees it.
 #[repr(C)]
@@ -168,6 +171,7 @@ plain!(RawName, RawText, RawSpec, RawOrder, RawAnswer, RawLine, RawSupervisor, R
 
 unsafe extern "C" {
     fn otp_open(tree: *mut RawTree, text: *const u8, length: usize, fault: *mut RawFault) -> u32;
+    fn otp_change(tree: *mut RawTree, text: *const u8, length: usize, fault: *mut RawFault) -> u32;
     fn otp_close(tree: *mut RawTree);
     fn otp_tick(tree: *mut RawTree, reading: u64) -> u32;
     fn otp_note(
@@ -225,6 +229,11 @@ impl Handle {
     pub fn open(&mut self, text: &[u8], fault: &mut RawFault) -> u32 {
         // SAFETY: see `Handle`.
         unsafe { otp_open(self.0.get(), text.as_ptr(), text.len(), fault) }
+    }
+
+    pub fn change(&mut self, text: &[u8], fault: &mut RawFault) -> u32 {
+        // SAFETY: see `Handle`.
+        unsafe { otp_change(self.0.get(), text.as_ptr(), text.len(), fault) }
     }
 
     #[inline]

@@ -20,16 +20,27 @@ pub(crate) struct Tags {
     places: HashMap<Tagged, usize>,
 }
 
+/// The numbers that stand behind a mark. No place is ever as high as half of all numbers.
+fn numbers_in(text: &[u8]) -> impl Iterator<Item = usize> {
+    let marks = text.windows(MARK.len()).enumerate().filter(|(_, it)| *it == MARK.as_bytes());
+    let numbers = marks.map(|(at, _)| {
+        let digits = text[at + MARK.len()..].iter().take_while(|it| it.is_ascii_digit());
+        digits.fold(0_usize, |number, digit| number.saturating_mul(10).saturating_add(usize::from(digit - b'0')))
+    });
+    numbers.filter(|number| *number < usize::MAX / 2)
+}
+
 impl Tags {
     /// None yet, and none of the words that a tree file has.
     pub(crate) fn beside(text: &[u8]) -> Self {
-        let numbers = text.windows(MARK.len()).enumerate().filter(|(_, it)| *it == MARK.as_bytes()).map(|(at, _)| {
-            let digits = text[at + MARK.len()..].iter().take_while(|it| it.is_ascii_digit());
-            digits.fold(0_usize, |number, digit| number.saturating_mul(10).saturating_add(usize::from(digit - b'0')))
-        });
-        // No place is ever as high as half of all numbers.
-        let first = numbers.filter(|number| *number < usize::MAX / 2).max().map_or(0, |last| last + 1);
-        Tags { first, ..Tags::default() }
+        Tags { first: numbers_in(text).max().map_or(0, |last| last + 1), ..Tags::default() }
+    }
+
+    /// The same words, where the tree goes on under this file; nothing where the file may have one of these, or of those to come.
+    pub(crate) fn and_beside(&self, text: &[u8]) -> Option<Self> {
+        let first = Tags::beside(text).first;
+        let is_free = first <= self.first || self.tagged.is_empty();
+        is_free.then(|| Tags { first: first.max(self.first), ..self.clone() })
     }
 
     /// The start word by which the library knows this one.
@@ -98,5 +109,9 @@ mod tests {
         assert_eq!(tags.of_word(name("..5")), (name("..5"), None));
         assert_eq!(tags.of_word(word), (name("a"), Some(1)));
         assert_eq!(tags.of_word(name("..99999999999999999999")), (name("..99999999999999999999"), None));
+        // Another file may have those alone that no word of the tree's is, or will be.
+        assert!(tags.and_beside(b"start = '..17'").is_some() && tags.and_beside(b"start = '..18'").is_none());
+        let other = Tags::beside(b"..5").and_beside(b"..900").unwrap();
+        assert_eq!(other.first, 901);
     }
 }

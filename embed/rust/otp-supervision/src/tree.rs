@@ -3,7 +3,7 @@
 use crate::call::{Answer, Call, ChildLine, Counts, RawKind, Reply, kind_of};
 use crate::clock::Reading;
 use crate::draft::Draft;
-use crate::fault::{Fault, OpenError, STRANGE, TreeFault};
+use crate::fault::{ChangeError, Fault, OpenError, STRANGE, TreeFault};
 use crate::ids::{CallId, ProcessId, SupervisorId};
 use crate::look::{Child, ChildState, Supervisor};
 use crate::name::{Name, Reason};
@@ -135,6 +135,85 @@ impl Tree {
             sys::BAD_TREE => Err(OpenError::Refused(TreeFault::from_raw(&fault, text))),
             status => Err(OpenError::Unknown(status)),
         }
+    }
+
+    /// The tree goes on under another tree file, as OTP's supervisors do after a change of code. It is for a moment at which nothing is
+    /// under way: no order waits, and each child is up or has no process.
+    ///
+    /// A supervisor of both files, by the ids from the root on, keeps its restarts, as many of the last as its new intensity bears. A
+    /// child of both keeps its process with its number, and has its new specification from then on. What is new has no process until
+    /// [`restart_child`](Tree::restart_child) starts it; what is gone has to be terminated before. Supervisors may have other numbers
+    /// afterwards ([`supervisors`](Tree::supervisors)); so have the [`Process`]es in hand that are told of later.
+    ///
+    /// ```
+    /// use otp_supervision::{Name, Order, Reading, Reason, SupervisorId, Tree};
+    ///
+    /// let (db, web) = ("[[child]]\nid = \"db\"\nstart = \"db\"\n", "[[child]]\nid = \"web\"\nstart = \"web\"\n");
+    /// let mut tree = Tree::open(format!("period = 60\n{db}"))?;
+    /// let mut go_on = |tree: &mut Tree| -> Result<String, Box<dyn std::error::Error>> {
+    ///     let mut told = Vec::new();
+    ///     while let Some(order) = tree.next_order()? {
+    ///         told.push(order.to_string());
+    ///         if let Order::Start(process) = order {
+    ///             tree.up(Reading::ZERO, &process)?;
+    ///             if process.number.number() == 1 {
+    ///                 tree.exited(Reading::ZERO, &process, Reason::error("crash"))?;
+    ///             }
+    ///         }
+    ///     }
+    ///     Ok(told.join(", "))
+    /// };
+    /// assert_eq!(go_on(&mut tree)?, "start db #1, ready, start db #2");
+    ///
+    /// tree.change(format!("period = 60\n{web}{db}"))?;
+    /// let root = tree.supervisor(SupervisorId::ROOT)?;
+    /// assert_eq!((root.in_period, root.counts.specs, root.counts.active), (1, 2, 1));
+    /// tree.restart_child(Reading::ZERO, SupervisorId::ROOT, Name::new("web")?)?;
+    /// assert_eq!(go_on(&mut tree)?, "start web #3, reply 1 ok #3");
+    /// # Ok::<(), Box<dyn std::error::Error>>(())
+    /// ```
+    ///
+    /// # Errors
+    /// [`ChangeError`] says why it isn't done. The tree is then as it was.
+    pub fn change(&mut self, text: impl AsRef<[u8]>) -> Result<(), ChangeError> {
+        let text = text.as_ref();
+        let tags = self.tags.and_beside(text).ok_or(ChangeError::Word)?;
+        self.change_with(text, tags)
+    }
+
+    /// The same under a draft.
+    ///
+    /// # Errors
+    /// [`ChangeError`] says why it isn't done. The tree is then as it was.
+    pub fn change_to(&mut self, draft: &Draft) -> Result<(), ChangeError> {
+        let mut tags = self.tags.clone();
+        let text = draft.to_toml_with(&mut |spec| tags.hide(spec)).map_err(|_| ChangeError::Period)?;
+        self.change_with(text.as_bytes(), tags).map_err(|error| match error {
+            // Nobody has seen the text that was made of the draft.
+            ChangeError::Refused(fault) => ChangeError::Refused(fault.without_line()),
+            error => error,
+        })
+    }
+
+    fn change_with(&mut self, text: &[u8], tags: Tags) -> Result<(), ChangeError> {
+        if let Some(watch) = &mut self.watch {
+            watch.look(&Sight { handle: &self.handle, tags: &self.tags });
+            if self.is_held || !watch.untold.is_empty() {
+                let of_order = if self.is_held { SupervisorId::new(self.order.supervisor) } else { SupervisorId::ROOT };
+                let first = watch.untold.front().map_or(of_order, |(supervisor, _)| *supervisor);
+                return Err(ChangeError::Busy(first));
+            }
+        }
+        let mut fault = RawFault::zeroed();
+        match self.handle.change(text, &mut fault) {
+            sys::OK => {}
+            status => return Err(ChangeError::of(status, &fault, text)),
+        }
+        self.tags = tags;
+        if self.watch.is_some() {
+            self.watch = Some(Box::new(Watch::of(&self.looks(), self.supervisor_count())));
+        }
+        Ok(())
     }
 
     /// Watches the tree from now on: orders tell what becomes of nested supervisors ([`Order::Nested`](crate::Order::Nested)), and an

@@ -1,8 +1,8 @@
 //! The crate from outside: what goes in, what comes out, and what is refused.
 
 use otp_supervision::{
-    AutoShutdown, Call, Cause, ChildProcess, ChildSpec, ChildState, Draft, Fault, Limits, Modules, Name, Note,
-    OpenError, Order, OrderRef, Phase, Process, ProcessId, Reading, Reason, Refusal, Reply, Restart, Shutdown,
+    AutoShutdown, Call, Cause, ChangeError, ChildProcess, ChildSpec, ChildState, Draft, Fault, Limits, Modules, Name,
+    Note, OpenError, Order, OrderRef, Phase, Process, ProcessId, Reading, Reason, Refusal, Reply, Restart, Shutdown,
     Strategy, SupervisorId, Text, Tree,
 };
 use std::time::Duration;
@@ -452,4 +452,63 @@ fn a_fault_says_where_it_stands() {
         panic!("it isn't refused")
     };
     assert_eq!(fault.place.map(|place| (place.line, place.path)), Some((None, "a".to_string())));
+}
+
+#[test]
+fn a_tree_goes_on_under_another_file() {
+    let mut tree = Tree::open(NESTED).unwrap();
+    let other = NESTED.replace("intensity = 2", "intensity = 5");
+    assert_eq!(tree.change(&other), Err(ChangeError::Busy(SupervisorId::ROOT)));
+    serve(&mut tree);
+    tree.note(at(10), SupervisorId::ROOT, Note::Exit(pid(1), crash())).unwrap();
+    assert!(tree.change(&other).is_err());
+    serve_at(10, &mut tree);
+    let looks = |tree: &Tree| -> Vec<(u64, u64, Option<ProcessId>)> {
+        let of = |number| (tree.supervisor(number).unwrap(), tree.children(number).unwrap());
+        tree.supervisors().map(of).map(|(it, children)| (it.intensity, it.in_period, children[0].number)).collect()
+    };
+    let before = looks(&tree);
+    assert_eq!(before, [(2, 1, Some(pid(5))), (0, 0, Some(pid(3)))]);
+    // What is refused changes nothing: a fault, a child or a supervisor that is gone, one of another kind, children that turn.
+    let gone = NESTED.replacen("\"db\"", "\"other\"", 1);
+    let bare = &NESTED[..NESTED.find("[child.tree]").unwrap()];
+    for (text, wanted) in [
+        (gone.as_str(), ChangeError::Running(SupervisorId::ROOT)),
+        (bare, ChangeError::Running(SupervisorId::ROOT)),
+        (&bare[..bare.rfind("[[child]]").unwrap()], ChangeError::Running(sup(1))),
+    ] {
+        assert!(matches!(tree.change(text), Err(ChangeError::Running(_))), "{wanted}");
+    }
+    let simple = "strategy = \"simple_one_for_one\"\n[[child]]\nid = \"db\"\nstart = \"x\"\n";
+    assert!(matches!(tree.change(simple), Err(ChangeError::Turned(_) | ChangeError::Running(_))));
+    assert!(matches!(tree.change("nonsense = 1"), Err(ChangeError::Refused(fault)) if fault.code > 0));
+    assert_eq!(looks(&tree), before);
+    // Restarts and processes go on, also where the supervisors have other numbers; what is new has no process yet.
+    let pool = "[[child]]\nid = \"new\"\nstart = \"n\"\n[child.tree]\n";
+    let at_first = other.find("[[child]]").unwrap();
+    tree.change([&other[..at_first], pool, &other[at_first..]].concat()).unwrap();
+    assert_eq!(tree.path_of(sup(2)).unwrap(), "pool/");
+    let (root, children) = (tree.supervisor(SupervisorId::ROOT).unwrap(), tree.children(SupervisorId::ROOT).unwrap());
+    assert_eq!((root.intensity, root.in_period, children.len()), (5, 1, 3));
+    assert_eq!((children[0].state, children[1].number), (ChildState::Undefined, Some(pid(5))));
+    assert_eq!(tree.children(sup(2)).unwrap()[0].number, Some(pid(3)));
+    assert_eq!(tree.next_order(), Ok(None));
+    let call = tree.restart_child(at(20), SupervisorId::ROOT, name("new")).unwrap();
+    assert_eq!(answer(&mut tree, call), Ok(Some(pid(6))));
+    // A lower intensity drops the oldest restarts, and ends nothing.
+    let call = tree.terminate_child(at(20), SupervisorId::ROOT, name("new")).unwrap();
+    assert_eq!(answer(&mut tree, call), Ok(()));
+    tree.change(NESTED.replace("intensity = 2", "intensity = 0")).unwrap();
+    assert_eq!(tree.supervisor(SupervisorId::ROOT).unwrap().in_period, 0);
+    // By a draft, and while it is watched.
+    tree.watch();
+    let draft = Draft::new().child(ChildSpec::worker(name("db"), name("x")).tag(7)).supervisor(
+        name("pool"),
+        Draft::new().child(ChildSpec::worker(name("a"), name("y"))).child(ChildSpec::worker(name("b"), name("y"))),
+    );
+    tree.change_to(&draft).unwrap();
+    assert_eq!(tree.child(SupervisorId::ROOT, 0).unwrap().unwrap().spec.tag, Some(7));
+    assert_eq!(tree.change("[[child]]\nid = \"db\"\nstart = \"..0\"\n"), Err(ChangeError::Word));
+    tree.note(at(30), SupervisorId::ROOT, Note::Exit(pid(5), crash())).unwrap();
+    assert_eq!(serve_at(30, &mut tree), ["start db #7"]);
 }

@@ -1,8 +1,8 @@
-//! The program that has replaced another one goes on with what that has left: it opens the tree over the processes that run, as a
-//! reload does.
+//! The program that has replaced another one goes on with what that has left: it opens the tree over the processes that run.
 
 use crate::daemon::Daemon;
 use crate::files::Files;
+use crate::handover::reopen::{Opened, Processes, open_over};
 use crate::handover::{Handover, Said};
 use crate::keeper::Kept;
 use crate::live::Live;
@@ -11,9 +11,7 @@ use crate::log::{Class, Record};
 use crate::notify;
 use crate::os;
 use crate::plan::{self, Plan, Plans};
-use crate::reload::exchange::{Opened, Processes, open_over};
 use crate::reload::shape::child_at;
-use crate::reload::steps::Steps;
 use crate::stand_in::Clock;
 use otp_supervision::{Name, Process, ProcessId, Reading, SupervisorId};
 use std::error::Error;
@@ -61,7 +59,7 @@ pub fn read(fd: RawFd, sources: &Sources) -> Result<Resumed, Box<dyn Error>> {
         }
     }
     let reading = Reading::from_millis(left.reading);
-    let opened = open_over(&loaded, &Steps::default(), processes, &loaded.shapes, reading)?;
+    let opened = open_over(&loaded, processes, reading)?;
     Ok(Resumed { left, loaded, opened, plans })
 }
 
@@ -111,6 +109,11 @@ impl Daemon {
         self.text.clone_from(&loaded.files.tree);
         self.take_over(opened, &loaded)?;
         (self.shapes, self.keeper.after) = (loaded.shapes, loaded.needs.after);
+        for process in self.live.values().map(|live| &live.process) {
+            if let Some(id) = process.id {
+                self.keeper.run_on(process.supervisor, id);
+            }
+        }
         if let Some(manager) = &self.manager {
             manager.tell(&format!("READY=1\nSTATUS={} processes are up", self.live.len()));
         }

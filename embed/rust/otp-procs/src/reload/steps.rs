@@ -44,6 +44,11 @@ impl Side<'_> {
     fn plan_of(&self, child: &Wanted) -> Option<&Plan> {
         self.plans.get(child.spec.start.as_str()).map(Rc::as_ref)
     }
+
+    /// Whether a client starts it.
+    fn is_by_hand(&self, child: &Wanted) -> bool {
+        child.nested.is_none() && self.plan_of(child).is_some_and(|plan| plan.by_hand.is_some())
+    }
 }
 
 /// What is stopped or started.
@@ -62,11 +67,7 @@ pub struct Steps {
     pub stops: Vec<Target>,
     /// What is started, in start order.
     pub starts: Vec<Target>,
-    /// New temporary children: by the rules these are forgotten unless they are started with their supervisor.
-    pub temporary: BTreeSet<String>,
-    /// Children of the new tree that are started, with all that stands below them.
-    pub begin: BTreeSet<String>,
-    /// The tree is another one, or has to begin anew for a temporary child.
+    /// The tree is another one, or has to have temporary children again that are started.
     pub is_new_tree: bool,
     /// What is told: what is stopped, what else changes, and what is started.
     ended: Vec<String>,
@@ -102,13 +103,6 @@ impl Steps {
         if text.is_empty() { "nothing changes\n".to_string() } else { text }
     }
 
-    /// Whether a child is started, or stands below one that is.
-    pub fn is_started(&self, path: &str) -> bool {
-        let is_in =
-            |one: &String| path.strip_prefix(one.as_str()).is_some_and(|rest| rest.is_empty() || rest.starts_with('/'));
-        self.begin.iter().any(is_in)
-    }
-
     /// Nothing is to be done.
     pub fn is_empty(&self) -> bool {
         self.ended.is_empty() && self.changed.is_empty() && self.begun.is_empty()
@@ -142,7 +136,7 @@ impl Walk<'_> {
             }
         }
         for child in new.children.iter().filter(|child| old.find(child.spec.id).is_none()) {
-            self.comes(&new.path_of(child), is_down);
+            self.comes(&new.path_of(child), child, is_down);
         }
     }
 
@@ -162,12 +156,13 @@ impl Walk<'_> {
     }
 
     fn want(&mut self, path: &str) {
-        self.steps.begin.insert(path.to_string());
         self.wanted.insert(Target::Child(path.to_string()));
     }
 
-    fn comes(&mut self, path: &str, is_down: bool) {
-        if is_down {
+    fn comes(&mut self, path: &str, child: &Wanted, is_down: bool) {
+        if self.new.is_by_hand(child) {
+            self.steps.changed.push(line("later", path, "new, and ctl start starts it"));
+        } else if is_down {
             self.steps.changed.push(line("later", path, "new, and starts with its supervisor"));
         } else {
             self.begin(path, "");
@@ -182,14 +177,18 @@ impl Walk<'_> {
         let mut changes = old.changes(new);
         if let (Some(was), Some(is)) = (old.nested, new.nested) {
             self.say_now(path, &changes);
-            let is_down = is_down || !self.standing.running.contains(path);
-            return self.supervisor(was.index(), is.index(), is_down);
+            let is_running = self.standing.running.contains(path);
+            if !is_running && !is_down && self.standing.unstarted.contains(path) {
+                self.begin(path, "");
+            }
+            return self.supervisor(was.index(), is.index(), is_down || !is_running);
         }
         let (now, later) = self.keys(path, old, new);
         let has_more = !now.is_empty();
         changes.extend(now);
         self.say_now(path, &changes);
-        self.worker(path, &later.join(", "), has_more, is_down);
+        let is_released = self.old.is_by_hand(old) && !self.new.is_by_hand(new);
+        self.worker(path, &later.join(", "), has_more, is_down, is_released);
     }
 
     /// A child becomes one of another kind.
@@ -205,9 +204,10 @@ impl Walk<'_> {
         }
     }
 
-    fn worker(&mut self, path: &str, later: &str, has_more: bool, is_down: bool) {
+    fn worker(&mut self, path: &str, later: &str, has_more: bool, is_down: bool, is_released: bool) {
         let is_running = self.standing.running.contains(path);
-        let is_tried = self.standing.unstarted.contains(path)
+        let is_tried = is_released
+            || self.standing.unstarted.contains(path)
             || (self.standing.failing.contains(path) && (has_more || !later.is_empty()));
         if is_running && !later.is_empty() && self.restarts {
             self.stop(path, "restart", later);
@@ -271,13 +271,11 @@ impl Walk<'_> {
         }
     }
 
-    /// Brings what is wanted into start order. Of a new supervisor its children are started one by one.
+    /// Brings what is wanted into start order.
     fn arrange(&mut self) {
-        let (mut starts, mut temporary) = (Vec::new(), BTreeSet::new());
-        let (mut first, mut begun) = (Vec::new(), Vec::new());
+        let (mut starts, mut begun, mut pending) = (Vec::new(), Vec::new(), vec![(0, 0)]);
         let new = self.new.shapes;
-        let mut pending: Vec<(usize, bool, usize)> = vec![(0, false, 0)];
-        while let Some((number, is_new, at)) = pending.pop() {
+        while let Some((number, at)) = pending.pop() {
             let shape = &new[number];
             if shape.is_simple() {
                 let all = Target::Processes(shape.path.clone());
@@ -285,22 +283,17 @@ impl Walk<'_> {
                 continue;
             }
             let Some(child) = shape.children.get(at) else { continue };
-            pending.push((number, is_new, at + 1));
+            pending.push((number, at + 1));
             let path = shape.path_of(child);
-            let is_first = child.spec.restart == Restart::Temporary && child.nested.is_none();
-            if is_first { &mut first } else { &mut begun }.extend(self.begun.remove(&path));
-            let is_new = is_new || self.wanted.contains(&Target::Child(path.clone()));
-            match child.nested {
-                Some(nested) => pending.push((nested.index(), is_new, 0)),
-                None if is_new && is_first => drop(temporary.insert(path)),
-                None if is_new => starts.push(Target::Child(path)),
-                None => {}
+            begun.extend(self.begun.remove(&path));
+            let one = Target::Child(path);
+            if self.wanted.contains(&one) {
+                starts.push(one);
+                self.steps.is_new_tree |= child.spec.restart == Restart::Temporary;
             }
+            pending.extend(child.nested.map(|nested| (nested.index(), 0)));
         }
-        self.steps.is_new_tree |= !temporary.is_empty();
-        (self.steps.starts, self.steps.temporary) = (starts, temporary);
-        first.extend(begun);
-        self.steps.begun = first;
+        (self.steps.starts, self.steps.begun) = (starts, begun);
     }
 }
 
@@ -352,15 +345,15 @@ mod tests {
     }
 
     #[test]
-    fn starts_come_in_order_and_temporary_ones_first() {
+    fn starts_come_in_order() {
         let pool = child("p", "[child.tree]");
         let old = [child("a", ""), pool.clone(), below("x", "")].concat();
         let once = "restart = 'temporary'";
         let new = [child("n", ""), pool, below("y", ""), below("t", once), below("x", ""), child("z", "")].concat();
         let steps = steps(&old, &new, None).unwrap();
-        assert_eq!(steps.text(), "stop    a\nstart   p/t\nstart   n\nstart   p/y\nstart   z\n");
-        let started: Vec<Target> = ["n", "p/y", "z"].map(|path| Target::Child(path.to_string())).into();
-        assert_eq!((steps.starts, steps.temporary), (started, BTreeSet::from(["p/t".to_string()])));
+        assert_eq!(steps.text(), "stop    a\nstart   n\nstart   p/y\nstart   p/t\nstart   z\n");
+        let started: Vec<Target> = ["n", "p/y", "p/t", "z"].map(|path| Target::Child(path.to_string())).into();
+        assert_eq!(steps.starts, started);
     }
 
     #[test]
