@@ -1,6 +1,6 @@
 -- A text is cut at its first end of a line.
 use Rattle.std.proofs.Common.{◌≡◌, ◌∙◌, ℕ, ◌+◌, ◌==◌, ◌<◌, ◌≤◌, Bool, true, false, cond, List, [], ◌∷◌, ◌++◌, length, take, drop, Option, Some, None, IfNone, IfSome, position, refl, subst, ap, arith, sym}
-use Rattle.std.specs.List.{slice_split, position_or_len, count_by}
+use Rattle.std.specs.List.{slice_split, position_or_len, All, count_by}
 use Rattle.std.proofs.lemmas.Bool.{ltb-true, ltb-false}
 use Rattle.std.proofs.lemmas.List.Sums.{fails_before_first, sum_by_push}
 use Rattle.std.proofs.lemmas.List.Elements.{All-from_get_or}
