@@ -66,7 +66,7 @@ pub enum ChangeRefusal {
     /// The change isn't made, for this; never for want of memory.
     #[error("{0}")]
     Change(ChangeFault),
-    /// No supervisor goes on from what the change gives: as many events were counted as may be.
+    /// No supervisor goes on from the checkpoint that the change gives, as it has this fault.
     #[error("{0}")]
     Base(BaseFault),
     /// It is in the tree no more, and runs. A supervisor by itself is never refused for this.
