@@ -11,6 +11,8 @@
 %%   its own end             it ends                    end REASON
 %%
 %% After each line the player waits until the supervisor waits: in its loop, in a start, or for a child to end.
+%% Processes are numbered by their starts, and which_children is reversed. An exit signal to a process that has ended
+%% is no order, and calls that wait at the end are answered noproc before it.
 -module(parity_player).
 -export([open/1, play/2, orders/1, close/1, view/1, trace/0, init/1]).
 
