@@ -17,7 +17,8 @@ pub struct Wanted {
 pub struct Shape {
     /// Its path, with a `/` behind it; that of the root is empty.
     pub path: String,
-    strategy: Strategy,
+    /// How it restarts.
+    pub strategy: Strategy,
     intensity: u64,
     period: u64,
     auto_shutdown: AutoShutdown,
