@@ -35,6 +35,7 @@ mod os;
 mod outlet;
 mod output;
 mod page;
+mod past;
 mod peer;
 mod plan;
 mod proc_files;

@@ -315,13 +315,14 @@ fn restarts_and_numbers_go_on() {
     crash("p/x");
     assert_eq!(restarts(&daemon, "p/"), "0 of 1");
     assert_eq!(restarts(&daemon, ""), "3 of 9");
-    // After a new program they begin anew, and a reload goes on from there.
+    // So they do over a new program, also by the times that the files of now leave.
     assert!(daemon.ctl(&["reexec"]).0);
-    assert_eq!(restarts(&daemon, ""), "0 of 9");
+    assert_eq!((restarts(&daemon, "").as_str(), restarts(&daemon, "p/").as_str()), ("3 of 9", "0 of 1"));
     crash("a");
     write(&daemon, &tree(8, 1, ""));
     assert_eq!(reload(&daemon, &[]), "now     /: intensity 9 -> 8\n");
-    assert_eq!(restarts(&daemon, ""), "1 of 8");
+    assert!(daemon.ctl(&["reexec"]).0);
+    assert_eq!(restarts(&daemon, ""), "4 of 8");
     end(daemon);
 }
 

@@ -19,8 +19,10 @@ pub struct Shape {
     pub path: String,
     /// How it restarts.
     pub strategy: Strategy,
-    intensity: u64,
-    period: u64,
+    /// So many restarts it bears in a period of so many seconds.
+    pub intensity: u64,
+    /// The period.
+    pub period: u64,
     auto_shutdown: AutoShutdown,
     /// Its children; of a `simple_one_for_one` the one that all share.
     pub children: Vec<Wanted>,
