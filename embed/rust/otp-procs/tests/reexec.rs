@@ -259,7 +259,7 @@ fn a_restart_leaves_its_period_when_it_would_without_it() {
     daemon.wait_ready();
     for _ in 0..2 {
         crash(&daemon, "web");
-        let of = |what: &str| daemon.log().iter().rfind(|line| line.get(what) != "").unwrap().number("ms");
+        let of = |what: &str| daemon.log().iter().rfind(|line| !line.get(what).is_empty()).unwrap().number("ms");
         let (at, begun) = (of("event"), Instant::now());
         reexec(&daemon);
         // Its clock goes on, as the time of the replacement has passed.
