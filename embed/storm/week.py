@@ -1,4 +1,4 @@
-"""A week in a minute: the daemon with a clock that is handed in, and with stand-ins for its processes."""
+"""A week in some seconds: the daemon with a clock that is handed in, and with stand-ins for its processes."""
 
 import collections
 import json
@@ -81,10 +81,12 @@ def week(it):
         _, status, used = os.wait4(daemon.pid, 0)
     expect(status == 0, f"status {status}")
     with open(log, encoding="utf-8") as file:
-        orders = [line for line in file if '"order":' in line]
+        lines = file.readlines()
+    orders = [line for line in lines if '"order":' in line]
     starts, last = sum('"order":"start"' in line for line in orders), json.loads(orders[-1])
     expect(starts == started, f"{starts} starts, and not {started}")
     expect(last["order"] == "end" and "more restarts" in last["cause"], f"the last order is {last}")
     played = subprocess.run([it.program, "replay", tree, log], stdout=subprocess.PIPE, stderr=subprocess.STDOUT, text=True, timeout=PATIENCE)
     expect(played.returncode == 0, f"replay: {played.stdout}")
-    return f"{started} starts in {time.monotonic() - begun:.0f} s, at most {used.ru_maxrss / 1024:.0f} MiB"
+    took, most = time.monotonic() - begun, used.ru_maxrss / 1024
+    return f"{started - CHILDREN} restarts, {len(lines)} lines, no difference when played again; {took:.0f} s, at most {most:.0f} MiB"

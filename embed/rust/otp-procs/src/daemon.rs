@@ -16,6 +16,7 @@ use crate::os::{self, READABLE, Waited};
 use crate::outlet::{Outlet, Room};
 use crate::output::Source;
 use crate::page::Pages;
+use crate::past::Past;
 use crate::plan::Plans;
 use crate::proc_files::Process;
 use crate::reload::Reload;
@@ -207,6 +208,7 @@ pub struct Daemon {
     pub(crate) kill_until: Option<u64>,
     pub(crate) paths: Vec<String>,
     pub(crate) seen: Vec<Seen>,
+    pub(crate) past: Vec<Past>,
     /// Whether each was seen with its children started, since it was itself.
     pub(crate) is_opened: Vec<bool>,
     /// Of each supervisor those that are its children.
@@ -271,6 +273,7 @@ impl Daemon {
             is_stopping: false,
             kill_until: None,
             seen: vec![Seen::default(); paths.len()],
+            past: vec![Past::default(); paths.len()],
             is_opened: vec![false; paths.len()],
             paths,
             nested,
@@ -287,6 +290,7 @@ impl Daemon {
         self.tree = tree.into();
         self.told = self.reading;
         self.seen = vec![Seen::default(); self.paths.len()];
+        self.past = vec![Past::default(); self.paths.len()];
         self.is_opened = vec![false; self.paths.len()];
         self.tells_all();
         Ok(())
@@ -339,7 +343,7 @@ impl Daemon {
 
     /// Does what is due, and takes what has happened, at one reading of the clock: what clients say, and what these processes do.
     pub(crate) fn turn(&mut self, clients: &[Waited], telling: &[ProcessId]) {
-        self.reading = self.reading.max(self.now());
+        self.read_clock(self.now());
         self.go_on();
         self.take_signals();
         self.take_requests(clients);
@@ -378,6 +382,14 @@ impl Daemon {
 
     pub(crate) fn now(&self) -> u64 {
         u64::try_from(self.clock.elapsed().as_millis()).unwrap_or(u64::MAX)
+    }
+
+    /// What is told from now on is of this reading. What was restarted before was so at the one before.
+    fn read_clock(&mut self, now: u64) {
+        if !self.touched.is_empty() {
+            self.look_at_supervisors();
+        }
+        self.reading = self.reading.max(now);
     }
 
     /// The tree is told the time, if that has gone on.
@@ -454,7 +466,7 @@ impl Daemon {
         loop {
             let now = self.now();
             if now >= self.reading.saturating_add(STALE) {
-                self.reading = now;
+                self.read_clock(now);
             }
             // What is due by now comes before what is told now: so a log can be played again from its lines alone.
             if (self.due.from <= self.reading && !self.take_orders()) || self.end.is_some() {

@@ -162,9 +162,12 @@ impl Daemon {
         for number in touched {
             self.add_near(number, &mut near);
         }
-        near.remove(&SupervisorId::ROOT);
-        if near.into_iter().any(|number| self.seen_anew(number).is_some()) {
+        let is_anew = near.iter().any(|number| !number.is_root() && self.seen_anew(*number).is_some());
+        if is_anew {
+            self.look_at_restarts(self.tree.supervisors());
             self.tree.supervisors().skip(1).for_each(|number| self.tell_supervisor(number));
+        } else {
+            self.look_at_restarts(near);
         }
     }
 
@@ -185,7 +188,8 @@ impl Daemon {
     }
 
     fn tell_supervisor(&mut self, number: SupervisorId) {
-        let Some((seen, now)) = self.seen_anew(number) else { return };
+        let Some((seen, _)) = self.seen_anew(number) else { return };
+        let Ok(now) = self.supervisor(number) else { return };
         self.is_opened[number.index()] = false;
         let before = std::mem::replace(&mut self.seen[number.index()], seen);
         let what = match (seen.starts > before.starts, before.starts) {
@@ -197,8 +201,6 @@ impl Daemon {
         if let Some(process) = now.process {
             line = line.number("number", process.number());
         }
-        self.remark(
-            line.number("starts", seen.starts).maybe("cause", now.cause.map(otp_supervision::EndCause::as_str)),
-        );
+        self.remark(line.number("starts", now.starts).maybe("cause", now.cause.map(otp_supervision::EndCause::as_str)));
     }
 }

@@ -3,10 +3,13 @@
 //! Each line is a word and fields. What isn't known is passed over, so that a newer program may say more; without the last line,
 //! `end`, all is refused.
 
+pub mod rebuilt;
 pub mod reopen;
 pub mod replace;
 pub mod resume;
 
+use crate::metrics::{Last, Tally};
+use crate::past::Counts;
 use crate::subset::Value;
 use std::collections::BTreeMap;
 use std::ffi::OsString;
@@ -23,8 +26,9 @@ pub type Said = BTreeMap<String, Value>;
 /// All that is left.
 #[derive(Clone, Debug, Default, PartialEq, Eq)]
 pub struct Handover {
-    /// The reading of the clock.
+    /// The reading of the clock, and that of the system in microseconds then.
     pub reading: u64,
+    pub monotonic: Option<u64>,
     /// The number of the next socket by which a process tells of itself.
     pub ears: u64,
     /// The log has had a tree in it already.
@@ -46,6 +50,12 @@ pub struct Handover {
     pub unstarted: Vec<String>,
     /// Nested supervisors that run.
     pub supervisors: Vec<String>,
+    /// By the path of a supervisor what is counted of it, and the readings of those restarts that count on.
+    pub past: Vec<(String, Counts, Vec<u64>)>,
+    /// By paths how often children were started, and have ended.
+    pub tallies: Vec<(String, Tally)>,
+    /// Lines that the log couldn't be given.
+    pub lost: u64,
     /// Processes that run.
     pub processes: Vec<Left>,
     /// The last lines of each.
@@ -149,6 +159,22 @@ fn word_of_said(said: &Said) -> String {
     format!(";{}", entries.join(";"))
 }
 
+fn line_of_past(path: &str, counts: &Counts, times: &[u64]) -> String {
+    let times: String = times.iter().map(|time| format!(" {time}")).collect();
+    let Counts { restarts, in_period, starts, cause } = counts;
+    let cause = or_none(*cause, |cause| cause.to_string());
+    format!("past {} {restarts} {in_period} {starts} {cause}{times}", hex(path.as_bytes()))
+}
+
+fn line_of_tally(path: &str, tally: &Tally) -> String {
+    let Tally { starts, exits, last } = tally;
+    let last = last.as_ref().map_or(String::new(), |last| {
+        let Last { at, text, has_begun, is_asked, is_fine } = last;
+        format!(" {at} {} {has_begun} {is_asked} {is_fine}", hex(text.as_bytes()))
+    });
+    format!("tally {} {starts} {exits}{last}", hex(path.as_bytes()))
+}
+
 /// The fields of a line.
 struct Fields<'a>(std::str::Split<'a, char>);
 
@@ -159,6 +185,21 @@ impl Fields<'_> {
 
     fn number<T: std::str::FromStr>(&mut self) -> Option<T> {
         self.word()?.parse().ok()
+    }
+
+    /// Whether there are more.
+    fn has_more(&self) -> bool {
+        self.0.clone().next().is_some()
+    }
+
+    fn last(&mut self) -> Option<Last> {
+        Some(Last {
+            at: self.number()?,
+            text: self.text()?,
+            has_begun: self.number()?,
+            is_asked: self.number()?,
+            is_fine: self.number()?,
+        })
     }
 
     fn bytes(&mut self) -> Option<Vec<u8>> {
@@ -207,6 +248,10 @@ impl Handover {
             text.push_str(&line);
             text.push('\n');
         };
+        add(format!("lost {}", self.lost));
+        if let Some(monotonic) = self.monotonic {
+            add(format!("monotonic {monotonic}"));
+        }
         add(format!("tree {}", hex(self.tree.as_bytes())));
         for (word, said) in &self.tables {
             add(format!("table {} {}", hex(word.as_bytes()), word_of_said(said)));
@@ -229,6 +274,12 @@ impl Handover {
             for path in paths {
                 add(format!("{word} {}", hex(path.as_bytes())));
             }
+        }
+        for (path, counts, times) in &self.past {
+            add(line_of_past(path, counts, times));
+        }
+        for (path, tally) in &self.tallies {
+            add(line_of_tally(path, tally));
         }
         for process in &self.processes {
             add(process.line());
@@ -275,6 +326,21 @@ impl Handover {
             "waiting" => self.waiting.push(fields.text()?),
             "unstarted" => self.unstarted.push(fields.text()?),
             "supervisor" => self.supervisors.push(fields.text()?),
+            "monotonic" => self.monotonic = Some(fields.number()?),
+            "lost" => self.lost = fields.number()?,
+            "past" => {
+                let path = fields.text()?;
+                let (restarts, in_period, starts) = (fields.number()?, fields.number()?, fields.number()?);
+                let counts = Counts { restarts, in_period, starts, cause: fields.maybe(|word| word.parse().ok())? };
+                let times = std::iter::from_fn(|| fields.0.next()).map(|word| word.parse().ok());
+                self.past.push((path, counts, times.collect::<Option<_>>()?));
+            }
+            "tally" => {
+                let path = fields.text()?;
+                let (starts, exits) = (fields.number()?, fields.number()?);
+                let last = if fields.has_more() { Some(fields.last()?) } else { None };
+                self.tallies.push((path, Tally { starts, exits, last }));
+            }
             "process" => self.processes.push(Left::read(fields)?),
             "outlet" => self.processes.last_mut()?.outlets.push(LeftOutlet::read(fields)?),
             "tail" => self.tails.push((fields.text()?, fields.bytes()?)),
@@ -357,6 +423,7 @@ impl LeftOutlet {
 #[cfg(test)]
 mod tests {
     use super::*;
+    use otp_supervision::EndCause;
 
     fn whole() -> Handover {
         let said: Said = [
@@ -368,6 +435,7 @@ mod tests {
         ]
         .map(|(key, value)| (key.to_string(), value))
         .into();
+        let last = Last { at: 7, text: "status 1".into(), has_begun: true, is_asked: false, is_fine: false };
         let outlet = LeftOutlet { pipe: -1, rest: b"half\x00 \n".to_vec(), parts: 3, ..LeftOutlet::default() };
         let process = Left {
             number: 7,
@@ -394,6 +462,20 @@ mod tests {
             kept: vec![("a".into(), 3, None, true), ("b".into(), 1, Some(99), false)],
             waiting: vec!["c".into()],
             supervisors: vec!["pool".into()],
+            past: vec![
+                (String::new(), Counts { restarts: 9, in_period: 3, starts: 0, cause: None }, vec![5, 5, 123_000]),
+                (
+                    "pool/".into(),
+                    Counts { restarts: 0, in_period: 2, starts: 3, cause: Some(EndCause::Intensity) },
+                    Vec::new(),
+                ),
+            ],
+            tallies: vec![
+                ("a".into(), Tally { starts: 3, exits: 2, last: Some(last) }),
+                ("b".into(), Tally { starts: 1, ..Tally::default() }),
+            ],
+            monotonic: Some(77),
+            lost: 4,
             processes: vec![Left { notify: 9, ..Left::default() }, process],
             tails: vec![("a".into(), b"line\n".to_vec())],
             ..Handover::default()

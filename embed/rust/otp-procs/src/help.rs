@@ -11,7 +11,7 @@ const ALL: &str = "\
 otp-procs: supervises real processes by the rules of OTP's supervisor
 
   otp-procs run TREE [COMMANDS] [--log FILE] [--json] [--control FOLDER | --no-control] [--cgroup auto] [--main PATH]
-  otp-procs check TREE [COMMANDS]     are both files as they should be, and the programs there?
+  otp-procs check TREE [COMMANDS]     what does a second crash cost; are both files as they should be, the programs there?
   otp-procs diff TREE [COMMANDS]      what would a reload of the running daemon to these files do?
   otp-procs show TREE                 prints the tree of a file that has commands, too
   otp-procs replay TREE LOG [--run N] does a log (--json) have the orders that the rules give?
@@ -51,8 +51,12 @@ significant child has ended; 6 all was killed; 7 the library refused what it sho
 const CHECK: &str = "\
 otp-procs check TREE [COMMANDS]
 
-Says whether both files are as they should be, whether each start word has a table, and whether the programs and
-folders are on this machine. Its status: 0 they are; 1 something is wrong; 2 these words are.
+By the rules a crash counts for all that its supervisor has: where that restarts too often it stops them all and ends.
+By default that is at the second crash within 5 s, whoever crashes, and ends the daemon. So check says for each service
+what its first crash does, what a second one at the same moment does, and what comes of more.
+
+It says first whether both files are as they should be, whether each start word has a table, and whether the programs
+and folders are on this machine. Its status: 0 they are; 1 something is wrong; 2 these words are.
 ";
 
 const DIFF: &str = "\

@@ -126,16 +126,16 @@ impl Keeper {
         self.waiting.contains(&(supervisor, id))
     }
 
-    /// The time before the next start: doubled each time, a tenth more or less.
+    /// The time before the next start, a tenth more or less.
     fn delay(&mut self, retry: Retry, times: u32) -> u64 {
-        let delay = retry.first.saturating_mul(1 << times.saturating_sub(1).min(30)).min(retry.most).max(1);
+        let delay = retry.wait(times);
         self.seed = self.seed.wrapping_mul(6_364_136_223_846_793_005).wrapping_add(delay | 1);
         delay - delay / 10 + (self.seed >> 33) % (delay / 5 + 1)
     }
 }
 
 /// The reason of an end that is left to the keeper: the same text, as a shutdown.
-fn alone(reason: Reason) -> Reason {
+pub(crate) fn alone(reason: Reason) -> Reason {
     let text = match reason {
         Reason::Error(text) => Ok(text),
         other => Text::new(&other.to_string()),
@@ -176,7 +176,7 @@ impl Daemon {
         kept.times += 1;
         let times = kept.times;
         let record = |what| Record::new(Class::Remark, what).text("path", path).number("times", u64::from(times));
-        if retry.give_up_after.is_some_and(|most| times > most) {
+        if retry.gives_up_at(times) {
             (kept.due, kept.is_held) = (None, retry.on_give_up == OnGiveUp::Hold);
             let is_held = kept.is_held;
             if is_held {

@@ -9,7 +9,7 @@ use crate::program;
 use crate::reload::shape::{Shape, child_at, shapes_of};
 use crate::reload::steps::{Side, Steps, Target};
 use crate::subset::BadLine;
-use otp_supervision::{Fault, Name, Order, Reading, Strategy, Tree};
+use otp_supervision::{Fault, Name, Order, Process, Reading, Strategy, Tree};
 use std::collections::BTreeSet;
 use std::error::Error;
 use std::path::{Path, PathBuf};
@@ -47,14 +47,13 @@ impl Loaded {
     pub fn of(files: Files) -> Result<Self, Box<dyn Error>> {
         let mut tree = files.open()?;
         let mut words = BTreeSet::new();
-        take_starts(&mut tree, &mut words)?;
+        let mut take = |process: &Process| {
+            words.insert(process.start.to_string());
+        };
+        start_all(&mut tree, &mut take)?;
         let needs = Needs::of(&mut tree, &files.plans)?;
-        for number in tree.supervisors() {
-            if tree.supervisor(number)?.strategy == Strategy::SimpleOneForOne {
-                tree.start_dynamic(Reading::ZERO, number)?;
-            }
-        }
-        take_starts(&mut tree, &mut words)?;
+        start_one_each(&mut tree)?;
+        start_all(&mut tree, take)?;
         let shapes = shapes_of(&tree)?;
         Ok(Loaded { files, words, needs, shapes })
     }
@@ -118,11 +117,22 @@ impl Loaded {
     }
 }
 
-fn take_starts(tree: &mut Tree, words: &mut BTreeSet<String>) -> Result<(), Fault> {
+/// Each start succeeds at once.
+pub fn start_all(tree: &mut Tree, mut take: impl FnMut(&Process)) -> Result<(), Fault> {
     while let Some(order) = tree.next_order()? {
         let Order::Start(process) = order else { continue };
         tree.up(Reading::ZERO, &process)?;
-        words.insert(process.start.to_string());
+        take(&process);
+    }
+    Ok(())
+}
+
+/// Each `simple_one_for_one` is to start one process.
+pub fn start_one_each(tree: &mut Tree) -> Result<(), Fault> {
+    for number in tree.supervisors() {
+        if tree.supervisor(number)?.strategy == Strategy::SimpleOneForOne {
+            tree.start_dynamic(Reading::ZERO, number)?;
+        }
     }
     Ok(())
 }

@@ -180,6 +180,11 @@ impl Log {
         self.all_events
     }
 
+    /// So many lines were lost by the program that this one has replaced.
+    pub fn had_lost(&mut self, lines: u64) {
+        self.all_lost = lines;
+    }
+
     /// So many lines were lost since the beginning.
     pub fn all_lost(&self) -> u64 {
         self.all_lost

@@ -6,6 +6,7 @@ mod asks;
 mod beginning;
 mod client;
 mod control;
+mod costs;
 mod counted;
 mod daemon;
 mod deeds;
@@ -34,6 +35,7 @@ mod os;
 mod outlet;
 mod output;
 mod page;
+mod past;
 mod peer;
 mod plan;
 mod proc_files;
@@ -131,12 +133,13 @@ fn check(tree: &Path, commands: Option<&Path>) -> Result<(), Box<dyn Error>> {
     if let Some(lacking) = loaded.lacking() {
         return Err(lacking.into());
     }
-    let Loaded { files, words, .. } = loaded;
+    let Loaded { files, words, .. } = &loaded;
     let name = files.commands.display();
     let faults: Vec<String> = files.plans.iter().filter_map(|(word, plan)| fault_of(word, plan)).collect();
     if !faults.is_empty() {
         return Err(format!("{name}: {}", faults.join("; ")).into());
     }
+    io::stdout().write_all(costs::text_of(&loaded)?.as_bytes())?;
     // Several trees may share a file of commands, so this is no fault.
     for word in files.plans.keys().filter(|word| !words.contains(*word)) {
         writeln!(io::stdout(), "{name}: [{word}] is run by no child of {}", tree.display())?;

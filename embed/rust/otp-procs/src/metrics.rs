@@ -89,7 +89,7 @@ fn add_children(daemon: &mut Daemon, text: &mut String) {
 }
 
 fn add_supervisors(daemon: &mut Daemon, text: &mut String) {
-    let found: Vec<_> = daemon.tree.supervisors().filter_map(|number| daemon.tree.supervisor(number).ok()).collect();
+    let found: Vec<_> = daemon.tree.supervisors().filter_map(|number| daemon.supervisor(number).ok()).collect();
     let mut add = |name: &str, kind: &str, about: &str, of: &dyn Fn(&otp_supervision::Supervisor) -> u64| {
         head(text, name, kind, about);
         for (path, supervisor) in daemon.paths.iter().zip(&found) {

@@ -90,7 +90,7 @@ impl Daemon {
 
     /// How long a page is true where nothing happens: restarts leave their period, a tenth of which may be told late. 0 is for ever.
     fn page_lasts(&self) -> u64 {
-        let supervisors = self.tree.supervisors().filter_map(|number| self.tree.supervisor(number).ok());
+        let supervisors = self.tree.supervisors().filter_map(|number| self.supervisor(number).ok());
         let full = supervisors.filter(|found| found.in_period > 0 && found.phase == Phase::Runs);
         full.map(|found| (found.period.as_millis() as u64 / 10).max(1_000)).min().unwrap_or(0)
     }
@@ -118,7 +118,7 @@ impl Daemon {
     }
 
     fn add_items(&mut self, number: SupervisorId, name: &str, items: &mut Vec<Item>) {
-        let Ok(found) = self.tree.supervisor(number) else { return };
+        let Ok(found) = self.supervisor(number) else { return };
         let path = self.paths.get(number.index()).cloned().unwrap_or_default();
         let is_there = found.process.is_some() || number.is_root();
         items.push(Item::Sup(Sup {

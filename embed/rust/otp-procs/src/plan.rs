@@ -137,6 +137,18 @@ pub struct Retry {
     pub on_give_up: OnGiveUp,
 }
 
+impl Retry {
+    /// So long is waited after so many ends in a row, more or less: doubled each time.
+    pub fn wait(&self, times: u32) -> u64 {
+        self.first.saturating_mul(1 << times.saturating_sub(1).min(30)).min(self.most).max(1)
+    }
+
+    /// Whether it isn't started again after so many.
+    pub fn gives_up_at(&self, times: u32) -> bool {
+        self.give_up_after.is_some_and(|most| times > most)
+    }
+}
+
 /// What a start word runs.
 #[derive(Clone, Debug, PartialEq, Eq)]
 pub struct Plan {

@@ -81,7 +81,7 @@ impl Daemon {
             Ok(found) => found,
             Err(text) => return self.answer(token, Err(&text)),
         };
-        if wish.is_dry || steps.is_empty() {
+        if wish.is_dry || (steps.is_empty() && !self.has_other_plans(&loaded)) {
             return self.answer(token, Ok(&steps.text()));
         }
         if let Some(manager) = &self.manager {
@@ -100,6 +100,13 @@ impl Daemon {
         }
         self.reload = Some(Reload::new(token, Goal::Program, Steps::default(), within, self.now()));
         self.reload_on();
+    }
+
+    /// Whether the files say of what is run something else than those of now, also where each process runs so already.
+    fn has_other_plans(&self, loaded: &Loaded) -> bool {
+        let (now, new) = (&self.plans, &loaded.files.plans);
+        let is_same = |word: &String| now.get(word).zip(new.get(word)).is_some_and(|(now, new)| now.said == new.said);
+        now.len() != new.len() || !now.keys().all(is_same)
     }
 
     fn may_reload(&self) -> Result<(), String> {

@@ -1,5 +1,6 @@
 //! Plays a log again: the events of the log are told to a new tree, which has to give the orders of the log.
 
+use crate::handover::rebuilt;
 use crate::told::{CallKind, Told};
 use otp_supervision::{Name, Note, Order, ProcessId, Reading, Reason, SupervisorId, Tree};
 use std::collections::BTreeMap;
@@ -208,9 +209,15 @@ fn play(tree: &mut Tree, fields: &BTreeMap<String, String>, played: &mut Played)
         if let Some(order) = next(tree)? {
             return Err(format!("the tree orders {order} before this"));
         }
-        // Of a program that was replaced, or that is older.
+        // Of a program that was replaced, or that is older, which counted restarts anew.
         if event == "reload" {
-            *tree = Tree::open(fields.get("tree_text").ok_or("no tree")?).map_err(|error| error.to_string())?;
+            let text = fields.get("tree_text").ok_or("no tree")?;
+            let tree_of = |restarts: &String| {
+                let restarted = rebuilt::of_text(restarts).ok_or("no restarts")?;
+                rebuilt::rebuilt(text, &restarted, reading.as_millis()).map_err(|error| error.to_string())
+            };
+            let opened = || Tree::open(text).map_err(|error| error.to_string());
+            *tree = fields.get("restarts").map_or_else(opened, tree_of)?;
             tree.tick(reading).map_err(|fault| fault.to_string())?;
             played.reloads += 1;
             return Ok(());

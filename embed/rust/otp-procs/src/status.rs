@@ -179,7 +179,7 @@ impl Daemon {
 /// For people: a line for each supervisor and each child, those of a supervisor two columns further to the right.
 pub fn as_text(daemon: &mut Daemon) -> String {
     let mut text = String::new();
-    if let Ok(root) = daemon.tree.supervisor(SupervisorId::ROOT) {
+    if let Ok(root) = daemon.supervisor(SupervisorId::ROOT) {
         let _ = writeln!(text, "{}  up {}", words_of(&root), span(daemon.reading));
         add_children(daemon, SupervisorId::ROOT, 1, &mut text);
     }
@@ -201,7 +201,7 @@ fn add_child(
     level: usize,
     text: &mut String,
 ) {
-    let nested = child.nested.and_then(|nested| daemon.tree.supervisor(nested).ok().map(|found| (nested, found)));
+    let nested = child.nested.and_then(|nested| daemon.supervisor(nested).ok().map(|found| (nested, found)));
     if let Some((nested, found)) = nested {
         let _ = writeln!(text, "{:<COLUMN$} {}", format!("{name}/"), words_of(&found));
         // The children of one that doesn't run are those that it had.
@@ -261,7 +261,7 @@ pub fn as_json(daemon: &mut Daemon) -> String {
 }
 
 fn add_json(daemon: &mut Daemon, number: SupervisorId, text: &mut String) {
-    let Ok(supervisor) = daemon.tree.supervisor(number) else {
+    let Ok(supervisor) = daemon.supervisor(number) else {
         return;
     };
     let path = quoted(daemon.paths.get(number.index()).map_or("", String::as_str));

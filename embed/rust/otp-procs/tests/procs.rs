@@ -219,8 +219,10 @@ fn check_tells_what_is_missing_on_this_machine() {
         fs::write(folder.join("commands.toml"), commands).unwrap();
         let mut check = std::process::Command::new(common::daemon::PROGRAM);
         let output = check.args(["check", "tree.toml", "commands.toml"]).current_dir(&folder).output().unwrap();
-        let told = [output.stdout, output.stderr].concat();
-        (output.status.code(), String::from_utf8_lossy(&told).into_owned())
+        let told = String::from_utf8([output.stdout, output.stderr].concat()).unwrap();
+        // What crashes cost, of files that are as they should be, is tests/check.rs's.
+        let told = if told.starts_with("a crash of") { told.lines().skip(2).collect() } else { told };
+        (output.status.code(), told)
     };
     assert_eq!(check(STEADY), (Some(0), String::new()));
     // Its folder is the daemon's, not the one in which the process works.
@@ -229,7 +231,7 @@ fn check_tells_what_is_missing_on_this_machine() {
     fs::create_dir(folder.join("logs")).unwrap();
     assert_eq!(check(&format!("{file}'logs/out'")), (Some(0), String::new()));
     let (status, told) = check(&format!("{STEADY}[z]\ncommand = ['sleep', '1']"));
-    assert_eq!((status, told.as_str()), (Some(0), "commands.toml: [z] is run by no child of tree.toml\n"));
+    assert_eq!((status, told.as_str()), (Some(0), "commands.toml: [z] is run by no child of tree.toml"));
     for (commands, text) in [
         ("[b]\ncommand = ['sleep', '1']\n", "no table for a"),
         ("[a]\ncommand = ['no_such_program']\n", "[a] there is no program no_such_program"),

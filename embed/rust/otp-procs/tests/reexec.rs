@@ -6,6 +6,7 @@ use common::daemon::{Daemon, KILL, PROGRAM, copy_program, new_folder, send, wait
 use std::fs;
 use std::path::Path;
 use std::process::Command;
+use std::time::Instant;
 
 const FLAGS: [&str; 5] = ["--json", "--log", "log", "--control", "control"];
 
@@ -189,6 +190,164 @@ fn a_program_that_can_not_take_over_changes_nothing() {
         .current_dir(&folder)
         .output();
     assert_eq!(output.unwrap().status.code(), Some(1));
+    end(daemon);
+}
+
+/// The process of a path is killed, and the next one is there.
+fn crash(daemon: &Daemon, path: &str) {
+    let pid = pid_of(daemon, path).unwrap();
+    send(pid, KILL);
+    wait_until("it is restarted", || pid_of(daemon, path).is_some_and(|other| other != pid));
+}
+
+/// What is counted of all supervisors: the first words of their lines.
+fn counts(daemon: &Daemon) -> Vec<String> {
+    let (_, text) = daemon.ctl(&["status"]);
+    let lines = text.lines().filter(|line| line.contains(" restarts in "));
+    lines
+        .map(|line| line.split("one_for_").nth(1).unwrap().split("  up ").next().unwrap().to_string())
+        .map(without_number)
+        .collect()
+}
+
+fn without_number(text: String) -> String {
+    text.split_whitespace().filter(|word| !word.starts_with('#')).collect::<Vec<&str>>().join(" ")
+}
+
+/// A service, and a pool of two; all restarts count for an hour.
+fn counted(intensity: u64, of_pool: u64) -> String {
+    format!(
+        "intensity = {intensity}\nperiod = 3600\n[[child]]\nid = 'web'\nstart = 's'\n\
+         [[child]]\nid = 'pool'\nstart = 's'\n[child.tree]\nstrategy = \"one_for_all\"\nintensity = {of_pool}\nperiod = 3600\n\
+         [[child.tree.child]]\nid = 'a'\nstart = 's'\n[[child.tree.child]]\nid = 'b'\nstart = 's'\n"
+    )
+}
+
+#[test]
+fn a_supervisor_ends_at_the_crash_at_which_it_would_without_it() {
+    for times in [0, 1, 3] {
+        let mut daemon = start(&new_folder(), &counted(2, 1), COMMANDS);
+        daemon.wait_ready();
+        let replaced = || (0..times).for_each(|_| reexec(&daemon));
+        assert_eq!(counts(&daemon), ["one 0 of 2 restarts in 3600 s", "all 0 of 1 restarts in 3600 s"]);
+        replaced();
+        crash(&daemon, "pool/a");
+        replaced();
+        assert_eq!(counts(&daemon), ["one 0 of 2 restarts in 3600 s", "all 1 of 1 restarts in 3600 s"]);
+        // The pool gives up, and begins anew.
+        crash(&daemon, "pool/b");
+        replaced();
+        let anew = "all 0 of 1 restarts in 3600 s 2 starts last ended: intensity";
+        assert_eq!(counts(&daemon), ["one 1 of 2 restarts in 3600 s", anew]);
+        crash(&daemon, "web");
+        crash(&daemon, "pool/a");
+        replaced();
+        let full = "all 1 of 1 restarts in 3600 s 2 starts last ended: intensity";
+        assert_eq!(counts(&daemon), ["one 2 of 2 restarts in 3600 s", full]);
+        // The next crash of the pool is one too many for the root, too.
+        send(pid_of(&daemon, "pool/a").unwrap(), KILL);
+        assert_eq!(daemon.wait(), 3);
+        assert_eq!(daemon.left(), []);
+        daemon.replay();
+    }
+}
+
+#[test]
+fn a_restart_leaves_its_period_when_it_would_without_it() {
+    let tree = "intensity = 1\nperiod = 2\n[[child]]\nid = 'web'\nstart = 's'\n";
+    let daemon = start(&new_folder(), tree, COMMANDS);
+    daemon.wait_ready();
+    for _ in 0..2 {
+        crash(&daemon, "web");
+        let of = |what: &str| daemon.log().iter().rfind(|line| !line.get(what).is_empty()).unwrap().number("ms");
+        let (at, begun) = (of("event"), Instant::now());
+        reexec(&daemon);
+        // Its clock goes on, as the time of the replacement has passed.
+        let replaced = daemon.log().iter().rfind(|line| line.get("remark") == "replaced").unwrap().number("ms");
+        assert!(replaced >= at && replaced - at <= begun.elapsed().as_millis() as u64 + 1_000);
+        wait_until("it counts no more", || counts(&daemon) == ["one 0 of 1 restarts in 2 s"]);
+        daemon.ctl(&["start", "none"]);
+        let asked = daemon.log().iter().rfind(|line| line.get("remark") == "asked").unwrap().number("ms");
+        assert!(asked > at + 2_000, "{asked} {at}");
+    }
+    end(daemon);
+}
+
+#[test]
+fn what_is_measured_goes_on() {
+    let daemon = start(&new_folder(), &counted(9, 1), COMMANDS);
+    daemon.wait_ready();
+    for path in ["web", "pool/a", "pool/a", "web", "pool/b"] {
+        crash(&daemon, path);
+    }
+    assert!(daemon.ctl(&["stop", "web"]).0);
+    let measured = || -> Vec<String> {
+        let (_, text) = daemon.ctl(&["metrics"]);
+        let lines = text.lines().filter(|line| !line.starts_with("otp_procs_uptime"));
+        lines.map(str::to_string).collect()
+    };
+    let json = || -> Vec<String> {
+        let (_, text) = daemon.ctl(&["status", "--json"]);
+        let fields = text.split(['{', ',', '}']).map(str::to_string);
+        fields.filter(|field| !["\"number\"", "\"since_ms\""].iter().any(|key| field.starts_with(key))).collect()
+    };
+    let before = (measured(), json());
+    assert!(before.0.contains(&"otp_procs_starts_total{path=\"web\"} 3".to_string()), "{before:?}");
+    assert!(before.0.contains(&"otp_procs_exits_total{path=\"pool/a\"} 3".to_string()), "{before:?}");
+    assert!(before.0.contains(&"otp_procs_supervisor_starts_total{supervisor=\"pool/\"} 2".to_string()), "{before:?}");
+    assert!(
+        ["\"restarts\":3", "\"starts\":2", "\"cause\":\"intensity\""]
+            .iter()
+            .all(|it| before.1.contains(&it.to_string()))
+    );
+    for _ in 0..2 {
+        reexec(&daemon);
+        assert_eq!((measured(), json()), before);
+    }
+    assert!(daemon.ctl(&["page"]).1.contains("2 restarts"));
+    // A supervisor that is down is told with why.
+    assert!(daemon.ctl(&["stop", "pool"]).0);
+    reexec(&daemon);
+    let words = "down 2 starts ended: asked stopping";
+    let starts = "otp_procs_supervisor_starts_total{supervisor=\"pool/\"} 2".to_string();
+    assert!(counts(&daemon)[1].ends_with(words) && measured().contains(&starts), "{:?}", counts(&daemon));
+    assert!(daemon.ctl(&["start", "pool"]).0);
+    assert_eq!(counts(&daemon)[1], "all 0 of 1 restarts in 3600 s 3 starts last ended: asked");
+    end(daemon);
+}
+
+/// Of each supervisor of a log its restarts: each `exit` that nobody asked for is one here.
+#[test]
+fn no_restart_is_lost_beside_many_replacements() {
+    let wild = |id: &str| format!("[[child]]\nid = '{id}'\nstart = 'wild'\n");
+    let tree = format!(
+        "intensity = 1000\nperiod = 3600\n{}{}[[child]]\nid = 'pool'\nstart = 's'\n[child.tree]\nintensity = 1000\nperiod = 3600\n\
+         [[child.tree.child]]\nid = 'c'\nstart = 'wild'\n[[child.tree.child]]\nid = 'steady'\nstart = 's'\n",
+        wild("a"),
+        wild("b")
+    );
+    let commands = format!("{COMMANDS}[wild]\ncommand = ['sh', '-c', 'sleep 0.05; exit 1']\n");
+    let daemon = start(&new_folder(), &tree, &commands);
+    daemon.wait_ready();
+    for number in 0.. {
+        reexec(&daemon);
+        if number >= 12 && daemon.log().iter().filter(|line| line.get("event") == "exit").count() > 40 {
+            break;
+        }
+    }
+    let calm = format!("{COMMANDS}[wild]\ncommand = ['sleep', '1000']\n");
+    fs::write(daemon.folder.join("commands.toml"), calm).unwrap();
+    assert!(daemon.ctl(&["reload", "--restart", "--within", "60s"]).0);
+    reexec(&daemon);
+    let (log, told) = (daemon.log(), counts(&daemon));
+    let crashes = |of: fn(&str) -> bool| {
+        let exits = log.iter().filter(|line| line.get("event") == "exit" && line.get("reason").starts_with("error"));
+        exits.filter(|line| of(line.get("path"))).count()
+    };
+    let (root, pool) = (crashes(|path| !path.contains('/')), crashes(|path| path.contains('/')));
+    assert!(root > 10 && pool > 5, "{root} {pool}");
+    let wanted = [root, pool].map(|count| format!("one {count} of 1000 restarts in 3600 s"));
+    assert_eq!(told, wanted);
     end(daemon);
 }
 

@@ -162,6 +162,29 @@ fn another_command_counts_at_the_next_start_or_by_a_restart() {
     end(daemon);
 }
 
+/// What runs is what the newest files say, though those between said something else: no process is touched, and the newest count.
+#[test]
+fn files_that_say_again_what_runs_are_taken() {
+    let daemon = Daemon::start(&[child("a", ""), child("b", "")].concat(), COMMANDS);
+    daemon.wait_ready();
+    let before = status(&daemon).1;
+    let other = COMMANDS.replacen("1000", "2000", 1);
+    write_commands(&daemon, &other);
+    assert_eq!(reload(&daemon, &[]), "later   a: command\nlater   b: command\n");
+    write_commands(&daemon, COMMANDS);
+    assert_eq!(reload(&daemon, &["--restart"]), "nothing changes\n");
+    let (text, after) = status(&daemon);
+    assert!(after == before && !text.contains("older commands"), "{text}");
+    send(after["a"], KILL);
+    wait_until("it is restarted", || status(&daemon).1.get("a").is_some_and(|pid| *pid != after["a"]));
+    let words = fs::read_to_string(format!("/proc/{}/cmdline", status(&daemon).1["a"])).unwrap();
+    assert!(words.contains("1000"), "{words}");
+    // A table that nobody runs is one of the daemon's, too: a dry run tells nothing, and a new program reads it.
+    write_commands(&daemon, &format!("{COMMANDS}[later]\ncommand = ['sleep', '3']\n"));
+    assert_eq!(reload(&daemon, &[]), "nothing changes\n");
+    end(daemon);
+}
+
 #[test]
 fn what_changes_its_kind_is_stopped_and_started() {
     let simple = |id: &str| pool(id, "strategy = \"simple_one_for_one\"", &["w"]);
@@ -315,13 +338,14 @@ fn restarts_and_numbers_go_on() {
     crash("p/x");
     assert_eq!(restarts(&daemon, "p/"), "0 of 1");
     assert_eq!(restarts(&daemon, ""), "3 of 9");
-    // After a new program they begin anew, and a reload goes on from there.
+    // So they do over a new program, also by the times that the files of now leave.
     assert!(daemon.ctl(&["reexec"]).0);
-    assert_eq!(restarts(&daemon, ""), "0 of 9");
+    assert_eq!((restarts(&daemon, "").as_str(), restarts(&daemon, "p/").as_str()), ("3 of 9", "0 of 1"));
     crash("a");
     write(&daemon, &tree(8, 1, ""));
     assert_eq!(reload(&daemon, &[]), "now     /: intensity 9 -> 8\n");
-    assert_eq!(restarts(&daemon, ""), "1 of 8");
+    assert!(daemon.ctl(&["reexec"]).0);
+    assert_eq!(restarts(&daemon, ""), "4 of 8");
     end(daemon);
 }
 

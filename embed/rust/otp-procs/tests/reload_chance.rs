@@ -7,7 +7,7 @@
 mod common;
 
 use common::Chance;
-use common::daemon::{Daemon, send, wait_until};
+use common::daemon::{Daemon, Line, send, wait_until};
 use std::collections::{BTreeMap, BTreeSet};
 use std::fmt::Write as _;
 use std::fs;
@@ -88,7 +88,7 @@ impl Supervisor {
     }
 
     fn text(&self, head: &str) -> String {
-        let mut text = format!("strategy = \"{}\"\nintensity = {}\nperiod = 60\n", self.strategy, self.intensity);
+        let mut text = format!("strategy = \"{}\"\nintensity = {}\nperiod = 3600\n", self.strategy, self.intensity);
         for kid in &self.children {
             let Kid { id, start, restart, .. } = kid;
             let _ = write!(text, "[[{head}child]]\nid = \"{id}\"\nstart = \"{start}\"\nrestart = \"{restart}\"\n");
@@ -263,6 +263,18 @@ impl Pair {
             kept[0] += u64::from(is_kept);
         }
         self.compare_shared(&simple, &before, &after);
+        let (mut text, mut after) = (text, after);
+        for _ in 0..chance.below(4) {
+            if after.is_empty() || !self.crash(*after.values().nth(chance.below(after.len() as u64) as usize).unwrap())
+            {
+                break;
+            }
+            (text, after) = status_of(&self.daemon);
+        }
+        if !self.daemon.is_running() {
+            self.daemon.replay();
+            return kept;
+        }
         self.replace(&text, &after);
         // What the daemon doesn't know isn't there.
         let (left, known): (BTreeSet<i32>, BTreeSet<i32>) =
@@ -281,6 +293,21 @@ impl Pair {
             lines.iter().filter(|line| !is_stopped(line)).cloned().collect()
         };
         assert_eq!(others(text), others(&wanted), "{}", self.told);
+    }
+
+    /// A process is killed, and what comes of it is waited for. Whether the daemon runs on.
+    fn crash(&mut self, pid: i32) -> bool {
+        send(pid, 9);
+        let is_told = |line: &Line| line.get("event") == "exit" && line.number("pid") == pid as u64;
+        wait_until("its end is told", || self.daemon.log().iter().any(is_told));
+        let is_calm = |daemon: &Daemon| {
+            let (is_done, text) = daemon.ctl(&["status"]);
+            let state = |line: &str| line.split_whitespace().nth(1).unwrap_or("").to_string();
+            is_done
+                && !text.lines().any(|line| ["starting", "asked", "killed", "ended,"].contains(&state(line).as_str()))
+        };
+        wait_until("it is calm", || !self.daemon.is_running() || is_calm(&self.daemon));
+        self.daemon.is_running()
     }
 
     /// The program is replaced, and nothing is seen of it.

@@ -1,24 +1,26 @@
 //! The tree in a program that has replaced another one.
 //!
-//! It is opened anew, and each start that it orders is answered at once: by the process that runs, or with `ignore`. Its numbers
-//! begin at 1, and its supervisors count restarts from 0: so the log has one event for it, with the text of the tree, and then the
-//! orders and events of its opening.
+//! It is built anew, with the restarts that count on (`rebuilt.rs`), and without processes. Then calls start those that run, and each
+//! start is answered at once. Numbers of processes begin anew: so the log has one event for it, with the text of the tree and the
+//! restarts, and then the orders and events of these calls.
 
 use crate::daemon::{Daemon, layout_of};
+use crate::handover::rebuilt::{Restarted, rebuilt, text_of};
 use crate::live::Live;
 use crate::loading::Loaded;
 use crate::log::{Class, Record};
 use crate::reload::shape::{Shape, child_at};
 use crate::told::{CallKind, Told};
-use otp_supervision::{Fault, Name, Note, Order, Process, ProcessId, Reading, SupervisorId, Tree};
+use otp_supervision::{Fault, Name, Note, Order, Process, ProcessId, Reading, Restart, SupervisorId, Tree};
 use std::collections::{BTreeMap, BTreeSet, VecDeque};
+use std::error::Error;
 
 /// What the opening of the tree brings, as the log tells it.
 #[derive(Debug)]
 enum Event {
     Line(Record),
-    /// A start with its path: it is answered by the process that had this number, or with `ignore`.
-    Start(Process, String, Option<ProcessId>),
+    /// A start with its path: it is answered by the process that had this number.
+    Start(Process, String, ProcessId),
 }
 
 /// A tree that was opened over the processes that run.
@@ -27,6 +29,8 @@ pub struct Opened {
     tree: Tree,
     paths: Vec<String>,
     events: Vec<Event>,
+    /// Which restarts count on, as the log tells it.
+    restarts: String,
 }
 
 /// The processes that run.
@@ -55,32 +59,51 @@ impl Opening {
 
     /// Takes all orders, and answers each start, until nothing is left.
     fn go_on(&mut self) -> Result<(), Fault> {
-        let mut untold: VecDeque<(SupervisorId, Note, String)> = VecDeque::new();
-        loop {
-            while let Some(order) = self.opened.tree.next_order()? {
-                if let Order::Start(process) = order {
-                    untold.push_back(self.answer(process));
-                } else {
-                    self.opened.events.push(Event::Line(record_of(&order)));
-                }
+        while let Some(order) = self.opened.tree.next_order()? {
+            match order {
+                Order::Start(process) => self.answer(process)?,
+                order => self.opened.events.push(Event::Line(record_of(&order))),
             }
-            let Some((supervisor, note, path)) = untold.pop_front() else { return Ok(()) };
-            self.tell(&Told::Note(supervisor, note), &path)?;
         }
+        Ok(())
     }
 
-    /// By what the start of a child is answered.
-    fn answer(&mut self, process: Process) -> (SupervisorId, Note, String) {
+    /// The start of a child is answered by the process that runs.
+    fn answer(&mut self, process: Process) -> Result<(), Fault> {
         let path = self.path_of(&process);
         let above = &self.opened.paths[process.supervisor.index()];
         let runs = match process.id {
             Some(_) => self.processes.by_path.remove(&path),
             None => self.processes.shared.get_mut(above).and_then(VecDeque::pop_front),
         };
-        let note = if runs.is_some() { Note::Up(process.number) } else { Note::Ignored(process.number) };
-        let supervisor = process.supervisor;
-        self.opened.events.push(Event::Start(process, path.clone(), runs));
-        (supervisor, note, path)
+        // Only those are called for that run.
+        let Some(number) = runs else { return Ok(()) };
+        let (supervisor, note) = (process.supervisor, Note::Up(process.number));
+        self.opened.events.push(Event::Start(process, path.clone(), number));
+        self.tell(&Told::Note(supervisor, note), &path)
+    }
+
+    /// Calls a supervisor, and answers what it orders.
+    fn call(&mut self, supervisor: SupervisorId, kind: CallKind, path: &str) -> Result<(), Fault> {
+        self.tell(&Told::Call(supervisor, kind), path)?;
+        self.go_on()
+    }
+
+    /// The processes that run are started in start order, and those of a temporary child that has none are forgotten.
+    fn start_what_runs(&mut self, shapes: &[Shape]) -> Result<(), Fault> {
+        for (number, shape) in shapes.iter().enumerate().filter(|(_, shape)| !shape.is_simple()) {
+            let supervisor = SupervisorId::new(number as u32);
+            let runs = shape.path.is_empty() || self.processes.supervisors.contains(shape.path.trim_end_matches('/'));
+            for child in shape.children.iter().filter(|child| runs && child.nested.is_none()) {
+                let (path, id) = (shape.path_of(child), child.spec.id);
+                if self.processes.by_path.contains_key(&path) {
+                    self.call(supervisor, CallKind::Restart(id), &path)?;
+                } else if child.spec.restart == Restart::Temporary {
+                    self.call(supervisor, CallKind::Delete(id), &path)?;
+                }
+            }
+        }
+        Ok(())
     }
 
     fn tell(&mut self, told: &Told, path: &str) -> Result<(), Fault> {
@@ -96,8 +119,7 @@ impl Opening {
         for (above, count) in counts {
             let Some(number) = self.opened.paths.iter().position(|path| *path == above) else { continue };
             for _ in 0..count {
-                self.tell(&Told::Call(SupervisorId::new(number as u32), CallKind::StartDynamic), &above)?;
-                self.go_on()?;
+                self.call(SupervisorId::new(number as u32), CallKind::StartDynamic, &above)?;
             }
         }
         Ok(())
@@ -117,8 +139,7 @@ impl Opening {
             }
         }
         for (supervisor, id, path) in downs {
-            self.tell(&Told::Call(supervisor, CallKind::Terminate(id)), &path)?;
-            self.go_on()?;
+            self.call(supervisor, CallKind::Terminate(id), &path)?;
         }
         Ok(())
     }
@@ -127,7 +148,6 @@ impl Opening {
 /// An order that is for no process, as the log tells it.
 fn record_of(order: &Order) -> Record {
     match order {
-        Order::Ready => Record::new(Class::Order, "ready"),
         Order::Reply(reply) => {
             let record = Record::new(Class::Order, "reply").number("call", reply.call.number());
             let record = record.text("answer", reply.answer.to_string());
@@ -138,29 +158,30 @@ fn record_of(order: &Order) -> Record {
     }
 }
 
-/// Opens a tree over processes that run, of whose supervisors some may be down.
-pub fn open_over(loaded: &Loaded, processes: Processes, reading: Reading) -> Result<Opened, String> {
-    let tree = loaded.files.open().map_err(|error| error.to_string())?;
-    let open = || {
-        let (paths, _) = layout_of(&tree)?;
-        let opened = Opened { tree, paths, events: Vec::new() };
-        let mut opening = Opening { opened, processes, reading };
-        opening.opened.tree.tick(reading)?;
-        opening.go_on()?;
-        opening.start_shared()?;
-        opening.stop_what_is_down(&loaded.shapes)?;
-        Ok(opening.opened)
-    };
-    open().map_err(|fault: Fault| fault.to_string())
+/// Opens a tree over processes that run, of whose supervisors some may be down, and have restarted children before.
+pub fn open_over(
+    loaded: &Loaded,
+    processes: Processes,
+    restarted: &Restarted,
+    reading: u64,
+) -> Result<Opened, Box<dyn Error>> {
+    let tree = rebuilt(&loaded.files.tree, restarted, reading)?;
+    let (paths, _) = layout_of(&tree)?;
+    let opened = Opened { tree, paths, events: Vec::new(), restarts: text_of(restarted) };
+    let mut opening = Opening { opened, processes, reading: Reading::from_millis(reading) };
+    opening.stop_what_is_down(&loaded.shapes)?;
+    opening.start_what_runs(&loaded.shapes)?;
+    opening.start_shared()?;
+    Ok(opening.opened)
 }
 
 impl Daemon {
     /// A tree that was opened is the one that runs, and processes that were left go on in it.
     pub(crate) fn take_over(&mut self, opened: Opened, loaded: &Loaded) -> Result<(), Fault> {
-        let Opened { tree, paths, events } = opened;
+        let Opened { tree, paths, events, restarts } = opened;
         let from = if self.has_reloaded { None } else { Some(self.text.clone()) };
         let record = Record::new(Class::Event, "reload").maybe("from_text", from);
-        self.remark(record.text("tree_text", loaded.files.tree.as_str()));
+        self.remark(record.text("tree_text", loaded.files.tree.as_str()).text("restarts", restarts));
         self.has_reloaded = true;
         self.paths = paths;
         self.lay_out(tree)?;
@@ -170,21 +191,18 @@ impl Daemon {
         for event in events {
             match event {
                 Event::Line(record) => self.remark(record),
-                Event::Start(process, path, Some(number)) => {
+                Event::Start(process, path, number) => {
                     let Some(mut live) = before.remove(&number) else { continue };
                     renamed.push((std::mem::replace(&mut live.path, path), live.path.clone()));
                     live.process = process;
                     self.go_on_with(live);
-                }
-                Event::Start(process, path, None) => {
-                    let record = self.order("start", &process, &path);
-                    self.remark(record.text("text", "left out for now"));
                 }
             }
         }
         let running: BTreeSet<&str> = self.live.values().map(|live| live.path.as_str()).collect();
         let is_known = |path: &str| running.contains(path) || child_at(&loaded.shapes, path).is_some();
         self.tails.rename(&renamed, is_known);
+        self.tallies.retain(|path, _| is_known(path));
         // There is none that no supervisor of the tree has.
         for live in before.into_values() {
             let _ = live.kill();

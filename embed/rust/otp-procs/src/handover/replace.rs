@@ -6,7 +6,8 @@ use crate::handover::{Handover, Left};
 use crate::log::{Class, Record};
 use crate::notify;
 use crate::os;
-use otp_supervision::ProcessId;
+use crate::past::Counts;
+use otp_supervision::{Phase, ProcessId};
 use std::env;
 use std::ffi::{CString, OsString};
 use std::io::{Read, Seek, Write};
@@ -127,6 +128,9 @@ impl Daemon {
     fn hand_over(&mut self, token: u64) -> Result<(Handover, Vec<RawFd>), String> {
         let mut left = Handover {
             reading: self.now(),
+            monotonic: Some(os::monotonic_microseconds()),
+            lost: self.log.all_lost(),
+            tallies: self.tallies.iter().map(|(path, tally)| (path.clone(), tally.clone())).collect(),
             ears: notify::ears(),
             has_reloaded: self.has_reloaded,
             tree: self.text.clone(),
@@ -141,8 +145,13 @@ impl Daemon {
         let kept = self.keeper.all_kept();
         left.kept = kept.map(|(key, kept)| (self.path_at(key), kept.times, kept.due, kept.is_held)).collect();
         left.waiting = self.keeper.all_waiting().map(|key| self.path_at(key)).collect();
+        self.look_at_restarts(self.tree.supervisors());
         for number in self.tree.supervisors() {
             let above = self.paths[number.index()].clone();
+            if let (Ok(now), Some(past)) = (self.tree.supervisor(number), self.past.get(number.index())) {
+                let times = if now.phase == Phase::Runs { past.times_of(&now) } else { Vec::new() };
+                left.past.push((above.clone(), Counts::of(&past.shown(now)), times));
+            }
             for child in self.children_of(number) {
                 let Some(process) = child.number else { continue };
                 match child.id {

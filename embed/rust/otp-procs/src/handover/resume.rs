@@ -10,10 +10,11 @@ use crate::loading::{Loaded, Sources};
 use crate::log::{Class, Record};
 use crate::notify;
 use crate::os;
+use crate::past::Past;
 use crate::plan::{self, Plan, Plans};
 use crate::reload::shape::child_at;
 use crate::stand_in::Clock;
-use otp_supervision::{Name, Process, ProcessId, Reading, SupervisorId};
+use otp_supervision::{Name, Process, ProcessId, SupervisorId};
 use std::error::Error;
 use std::fs::File;
 use std::io::{Read, Seek};
@@ -58,8 +59,8 @@ pub fn read(fd: RawFd, sources: &Sources) -> Result<Resumed, Box<dyn Error>> {
             Some(above) => processes.shared.entry(above.clone()).or_default().push_back(number),
         }
     }
-    let reading = Reading::from_millis(left.reading);
-    let opened = open_over(&loaded, processes, reading)?;
+    let restarted = left.past.iter().map(|(path, _, times)| (path.clone(), times.clone())).collect();
+    let opened = open_over(&loaded, processes, &restarted, left.reading)?;
     Ok(Resumed { left, loaded, opened, plans })
 }
 
@@ -80,7 +81,9 @@ impl Daemon {
     pub fn resume(&mut self, resumed: Resumed) -> Result<(), Box<dyn Error>> {
         let Resumed { left, loaded, opened, plans } = resumed;
         notify::begin_ears_at(left.ears);
-        let begun = Instant::now().checked_sub(Duration::from_millis(left.reading));
+        let since = left.monotonic.map_or(0, |then| os::monotonic_microseconds().saturating_sub(then));
+        let begun = Duration::from_millis(left.reading) + Duration::from_micros(since);
+        let begun = Instant::now().checked_sub(begun);
         self.clock = Clock::System(begun.ok_or("the clock is younger than the daemon")?);
         self.reading = left.reading;
         (self.is_ready, self.is_resumed, self.has_more_ends) = (true, true, true);
@@ -99,6 +102,8 @@ impl Daemon {
         }
         let waiting: Vec<_> = left.waiting.iter().filter_map(|path| child_at(&loaded.shapes, path)).collect();
         self.keeper.wait_on(waiting);
+        self.tallies.extend(left.tallies);
+        self.log.had_lost(left.lost);
         left.tails.into_iter().for_each(|(path, bytes)| self.tails.add(&path, &bytes));
         self.remark(
             Record::new(Class::Remark, "replaced")
@@ -108,6 +113,11 @@ impl Daemon {
         );
         self.text.clone_from(&loaded.files.tree);
         self.take_over(opened, &loaded)?;
+        for (path, counts, times) in left.past {
+            let number = self.paths.iter().position(|known| *known == path);
+            let Some(number) = number.map(|number| SupervisorId::new(number as u32)) else { continue };
+            self.past[number.index()] = Past::going_on(counts, times, &self.tree.supervisor(number)?);
+        }
         (self.shapes, self.keeper.after) = (loaded.shapes, loaded.needs.after);
         for process in self.live.values().map(|live| &live.process) {
             if let Some(id) = process.id {

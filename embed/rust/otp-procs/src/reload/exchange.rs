@@ -18,12 +18,15 @@ impl Daemon {
     pub(crate) fn change_tree(&mut self, loaded: &Loaded, steps: &Steps) -> Result<(), String> {
         self.tell_time();
         let over = self.over(&loaded.shapes, steps);
+        self.look_at_restarts(self.tree.supervisors());
+        let before: Vec<_> = self.tree.supervisors().filter_map(|number| self.tree.supervisor(number).ok()).collect();
         self.tree.change(&loaded.files.tree).map_err(|error| error.to_string())?;
         let from = if self.has_reloaded { None } else { Some(self.text.clone()) };
         let record = Record::new(Class::Event, "change").maybe("from_text", from);
         self.remark(record.text("tree_text", loaded.files.tree.as_str()));
         self.has_reloaded = true;
         let old_paths = self.lay_out_as(&loaded.shapes);
+        self.move_past(&old_paths, &before);
         self.keeper.move_to(|(supervisor, id)| {
             let above = old_paths.get(supervisor.index())?;
             child_at(&loaded.shapes, &format!("{above}{id}"))

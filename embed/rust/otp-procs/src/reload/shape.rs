@@ -17,9 +17,12 @@ pub struct Wanted {
 pub struct Shape {
     /// Its path, with a `/` behind it; that of the root is empty.
     pub path: String,
-    strategy: Strategy,
-    intensity: u64,
-    period: u64,
+    /// How it restarts.
+    pub strategy: Strategy,
+    /// So many restarts it bears in a period of so many seconds.
+    pub intensity: u64,
+    /// The period.
+    pub period: u64,
     auto_shutdown: AutoShutdown,
     /// Its children; of a `simple_one_for_one` the one that all share.
     pub children: Vec<Wanted>,

@@ -170,6 +170,10 @@ impl Daemon {
         }
     }
 
+    pub fn is_running(&mut self) -> bool {
+        self.child.try_wait().unwrap().is_none()
+    }
+
     /// TERM, and then the end.
     pub fn stop(&mut self) -> i32 {
         self.signal(TERM);
