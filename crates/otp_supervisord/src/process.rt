@@ -112,7 +112,8 @@ fn put_starts(work: &mut Work<'_>, program: Program<'_>) -> Result<(), ImportFau
     if program.is_true(work.text, b"autorestart") {
         work.command_word("restart_always", "true")?;
     }
-    work.command_number("give_up_after", tries)?;
+    // None would be right for starts that fail alone: what has run is started again there.
+    work.command_number("give_up_after", tries.max(1))?;
     work.command_word("on_give_up", "\"hold\"")?;
     Ok(())
 }

@@ -374,10 +374,10 @@ const LIMITS: [(&str, &str); 5] = [
 /// Writes the limits of a service.
 fn put_limits(work: &mut Work<'_>, service: Service<'_>) -> Result<(), ImportFault> {
     let mut all = Vec::new(work.alloc);
-    for (there, here) in &LIMITS {
-        let value = service.value(work.text, there.as_bytes());
+    for entry in &LIMITS {
+        let value = service.value(work.text, entry.0.as_bytes());
         if !value.is_empty() {
-            let mut limit = Vec::from_slice(work.alloc, here.as_bytes())?;
+            let mut limit = Vec::from_slice(work.alloc, entry.1.as_bytes())?;
             limit.extend_from_slice(value)?;
             if !all.is_empty() {
                 all.extend_from_slice(b", ")?;

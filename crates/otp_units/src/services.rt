@@ -47,6 +47,47 @@ const KNOWN: [&str; 35] = [
     "WantedBy",
 ];
 
+/// What is said of keys by which one waits for another.
+const ORDER: &str =
+    ": it is left out; the order of the file holds, and after = [..] waits for others";
+
+/// Of those that tie services together.
+const TOGETHER: &str =
+    ": it is left out; a supervisor's strategy stops and starts children together";
+
+/// Of those that have a folder made.
+const FOLDER: &str = ": it is left out; the folder has to be there";
+
+/// Of those that bound what a service uses.
+const BOUND: &str =
+    ": it is left out; with --cgroup there are memory_max, cpu_weight, cpu_quota, pids_max";
+
+/// The keys that have none, of which more is to be said.
+const LEFT_OUT: [(&str, &str); 16] = [
+    ("After", ORDER),
+    ("Before", ORDER),
+    ("Wants", ORDER),
+    ("Requires", TOGETHER),
+    ("BindsTo", TOGETHER),
+    ("PartOf", TOGETHER),
+    (
+        "ExecReload",
+        ": it is left out; ctl signal sends a signal, as HUP",
+    ),
+    (
+        "ExecStartPre",
+        ": it is left out; a shell may run it first: [\"sh\", \"-c\", \".. && exec ..\"]",
+    ),
+    ("RuntimeDirectory", FOLDER),
+    ("StateDirectory", FOLDER),
+    ("LogsDirectory", FOLDER),
+    ("CacheDirectory", FOLDER),
+    ("MemoryMax", BOUND),
+    ("CPUWeight", BOUND),
+    ("CPUQuota", BOUND),
+    ("TasksMax", BOUND),
+];
+
 /// Whether a key has a counterpart, or says nothing of how a service runs.
 fn is_known(key: &[u8]) -> bool {
     for known in &KNOWN {
@@ -59,20 +100,12 @@ fn is_known(key: &[u8]) -> bool {
 
 /// What is said of a setting with a key that isn't taken.
 fn what_of(key: &[u8]) -> &'static str {
-    match key {
-        b"After" | b"Before" | b"Wants" =>
-            ": it is left out; the order of the file holds, and after = [..] waits for others",
-        b"Requires" | b"BindsTo" | b"PartOf" =>
-            ": it is left out; a supervisor's strategy stops and starts children together",
-        b"ExecReload" => ": it is left out; ctl signal sends a signal, as HUP",
-        b"ExecStartPre" =>
-            ": it is left out; a shell may run it first: [\"sh\", \"-c\", \".. && exec ..\"]",
-        b"RuntimeDirectory" | b"StateDirectory" | b"LogsDirectory" | b"CacheDirectory" =>
-            ": it is left out; the folder has to be there",
-        b"MemoryMax" | b"CPUWeight" | b"CPUQuota" | b"TasksMax" =>
-            ": it is left out; with --cgroup there are memory_max, cpu_weight, cpu_quota, pids_max",
-        _ => ": it has no counterpart, and is left out",
+    for entry in &LEFT_OUT {
+        if key == entry.0.as_bytes() {
+            return entry.1;
+        }
     }
+    ": it has no counterpart, and is left out"
 }
 
 /// Remarks on settings that have no counterpart.
