@@ -85,10 +85,21 @@ fn put_setting(
     Ok(())
 }
 
+/// Writes that a process is started by hand alone.
+fn put_by_hand(work: &mut Work<'_>, program: Program<'_>) -> Result<(), ImportFault> {
+    if is_no(work.text, program, b"autostart") {
+        work.command_word("autostart", "false")?;
+    }
+    Ok(())
+}
+
 /// Writes when a process counts as started, and how often it is started again. What is never started again counts as started at
-/// once, as an early end would be a failed start, which ends the tree.
+/// once, so that it may end soon.
 fn put_starts(work: &mut Work<'_>, program: Program<'_>) -> Result<(), ImportFault> {
     if is_never(work.text, program) {
+        work.command_word("restart_after", "\"1s\"")?;
+        work.command_number("give_up_after", 0)?;
+        work.command_word("on_give_up", "\"hold\"")?;
         return Ok(());
     }
     let seconds = program.number(work.text, b"startsecs", USUAL_START)?;
@@ -101,18 +112,24 @@ fn put_starts(work: &mut Work<'_>, program: Program<'_>) -> Result<(), ImportFau
     if program.is_true(work.text, b"autorestart") {
         work.command_word("restart_always", "true")?;
     }
+    // None would be right for starts that fail alone: what has run is started again there.
     work.command_number("give_up_after", tries.max(1))?;
     work.command_word("on_give_up", "\"hold\"")?;
     Ok(())
 }
 
+/// Whether the setting of this key says no.
+fn is_no(text: &[u8], program: Program<'_>, key: &[u8]) -> bool {
+    program.says(text, key, b"false")
+        || program.says(text, key, b"no")
+        || program.says(text, key, b"0")
+        || program.says(text, key, b"off")
+        || program.says(text, key, b"False")
+}
+
 /// Whether a process is never started again.
-pub(crate) fn is_never(text: &[u8], program: Program<'_>) -> bool {
-    program.says(text, b"autorestart", b"false")
-        || program.says(text, b"autorestart", b"no")
-        || program.says(text, b"autorestart", b"0")
-        || program.says(text, b"autorestart", b"off")
-        || program.says(text, b"autorestart", b"False")
+fn is_never(text: &[u8], program: Program<'_>) -> bool {
+    is_no(text, program, b"autorestart")
 }
 
 /// The word of the file of commands for where an output goes, if it is no file.
@@ -228,6 +245,10 @@ pub(crate) fn put_process(
     put_setting(work, program, process, b"user", "user")?;
     put_setting(work, program, process, b"umask", "umask")?;
     put_output(work, program, process)?;
+    put_by_hand(work, program)?;
     put_starts(work, program)?;
+    if let Some(setting) = program.find(work.text, b"exitcodes") {
+        put_words(work, "normal_status", &setting, process, true)?;
+    }
     put_signal(work, program)
 }

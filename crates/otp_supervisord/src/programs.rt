@@ -3,7 +3,7 @@
 use crate::expand::Process;
 use crate::ini::{Ini, Section, read_ini};
 use crate::order::{Unit, members_of, name_of, units_of};
-use crate::process::{Program, is_never, put_process};
+use crate::process::{Program, put_process};
 use otp_foreign::{Id, ImportFault, Why, Work, set_apart};
 use otp_spec::{MAX_CHILDREN, MAX_SHUTDOWN};
 
@@ -11,7 +11,7 @@ use otp_spec::{MAX_CHILDREN, MAX_SHUTDOWN};
 const USUAL_STOP: u64 = 10;
 
 /// The keys of a program that have a counterpart.
-const KNOWN: [&str; 21] = [
+const KNOWN: [&str; 23] = [
     "command",
     "process_name",
     "numprocs",
@@ -28,6 +28,8 @@ const KNOWN: [&str; 21] = [
     "stopsignal",
     "stopwaitsecs",
     "stopasgroup",
+    "killasgroup",
+    "exitcodes",
     "redirect_stderr",
     "stdout_logfile",
     "stdout_logfile_maxbytes",
@@ -87,12 +89,7 @@ fn remark_sections(work: &mut Work<'_>, ini: &Ini) -> Result<(), ImportFault> {
 
 /// Writes how a program is restarted and stopped.
 fn put_policy(work: &mut Work<'_>, program: Program<'_>) -> Result<(), ImportFault> {
-    let restart: &[u8] = if is_never(work.text, program) {
-        b"temporary"
-    } else {
-        b"transient"
-    };
-    work.put_word("restart", restart)?;
+    work.put_word("restart", b"transient")?;
     let seconds = program.number(work.text, b"stopwaitsecs", USUAL_STOP)?;
     work.put_number("shutdown", seconds.saturating_mul(1000).min(MAX_SHUTDOWN))?;
     Ok(())
@@ -154,15 +151,6 @@ fn put_program(
     let program = Program { ini, section };
     let name = name_of(work.text, section, b"program:").unwrap_or(b"");
     remark_settings(work, ini, section)?;
-    if program.says(work.text, b"autostart", b"false") {
-        work.remark(
-            section.name.start,
-            "program ",
-            name,
-            ": it isn't started by itself (autostart), and is left out",
-        )?;
-        return Ok(());
-    }
     let count = program.number(work.text, b"numprocs", 1)?;
     let first = program.number(work.text, b"numprocs_start", 0)?;
     for number in 0..count.min(1000) {

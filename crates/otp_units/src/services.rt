@@ -9,7 +9,7 @@ use otp_spec::{MAX_CHILDREN, MAX_SHUTDOWN};
 const USUAL_STOP: u64 = 90_000;
 
 /// The keys that have a counterpart.
-const KNOWN: [&str; 22] = [
+const KNOWN: [&str; 35] = [
     "ExecStart",
     "WorkingDirectory",
     "Environment",
@@ -18,20 +18,74 @@ const KNOWN: [&str; 22] = [
     "Group",
     "SupplementaryGroups",
     "UMask",
+    "Nice",
     "LimitNOFILE",
+    "LimitNPROC",
+    "LimitCORE",
+    "LimitMEMLOCK",
+    "LimitSTACK",
     "StandardOutput",
+    "StandardError",
     "Type",
+    "TimeoutSec",
     "TimeoutStartSec",
     "WatchdogSec",
     "Restart",
     "RestartSec",
+    "RestartMaxDelaySec",
+    "SuccessExitStatus",
+    "RestartPreventExitStatus",
     "StartLimitBurst",
+    "StartLimitIntervalSec",
+    "StartLimitInterval",
     "KillSignal",
     "KillMode",
     "NoNewPrivileges",
     "TimeoutStopSec",
     "Description",
+    "Documentation",
     "WantedBy",
+];
+
+/// What is said of keys by which one waits for another.
+const ORDER: &str =
+    ": it is left out; the order of the file holds, and after = [..] waits for others";
+
+/// Of those that tie services together.
+const TOGETHER: &str =
+    ": it is left out; a supervisor's strategy stops and starts children together";
+
+/// Of those that have a folder made.
+const FOLDER: &str = ": it is left out; the folder has to be there";
+
+/// Of those that bound what a service uses.
+const BOUND: &str =
+    ": it is left out; with --cgroup there are memory_max, cpu_weight, cpu_quota, pids_max";
+
+/// The keys that have none, of which more is to be said.
+const LEFT_OUT: [(&str, &str); 16] = [
+    ("After", ORDER),
+    ("Before", ORDER),
+    ("Wants", ORDER),
+    ("Requires", TOGETHER),
+    ("BindsTo", TOGETHER),
+    ("PartOf", TOGETHER),
+    (
+        "ExecReload",
+        ": it is left out; ctl signal sends a signal, as HUP",
+    ),
+    (
+        "ExecStartPre",
+        ": it is left out; a shell may run it first: [\"sh\", \"-c\", \".. && exec ..\"]",
+    ),
+    ("RuntimeDirectory", FOLDER),
+    ("StateDirectory", FOLDER),
+    ("LogsDirectory", FOLDER),
+    ("CacheDirectory", FOLDER),
+    ("MemoryMax", BOUND),
+    ("CPUWeight", BOUND),
+    ("CPUQuota", BOUND),
+    ("TasksMax", BOUND),
 ];
 
 /// Whether a key has a counterpart, or says nothing of how a service runs.
@@ -44,18 +98,23 @@ fn is_known(key: &[u8]) -> bool {
     false
 }
 
+/// What is said of a setting with a key that isn't taken.
+fn what_of(key: &[u8]) -> &'static str {
+    for entry in &LEFT_OUT {
+        if key == entry.0.as_bytes() {
+            return entry.1;
+        }
+    }
+    ": it has no counterpart, and is left out"
+}
+
 /// Remarks on settings that have no counterpart.
 fn remark_settings(work: &mut Work<'_>, units: &Units, unit: Unit) -> Result<(), ImportFault> {
     for number in unit.first..unit.last {
         if let Some(setting) = units.settings.get(number) {
             let key = setting.key.of(work.text);
             if !is_known(key) {
-                work.remark(
-                    setting.key.start,
-                    "key ",
-                    key,
-                    ": it has no counterpart, and is left out",
-                )?;
+                work.remark(setting.key.start, "key ", key, what_of(key))?;
             }
         }
     }
@@ -64,13 +123,8 @@ fn remark_settings(work: &mut Work<'_>, units: &Units, unit: Unit) -> Result<(),
 
 /// Writes how a service is restarted and stopped.
 fn put_policy(work: &mut Work<'_>, service: Service<'_>) -> Result<(), ImportFault> {
-    let restart: &[u8] = if service.is_restarted(work.text) {
-        b"transient"
-    } else {
-        b"temporary"
-    };
-    work.put_word("restart", restart)?;
-    match service.time(work.text, b"TimeoutStopSec", USUAL_STOP)? {
+    work.put_word("restart", b"transient")?;
+    match service.time_or(work.text, b"TimeoutStopSec", USUAL_STOP)? {
         Some(time) => work.put_number("shutdown", time.min(MAX_SHUTDOWN))?,
         None => work.put_word("shutdown", b"infinity")?,
     }
@@ -86,6 +140,12 @@ fn put_unit(
 ) -> Result<(), ImportFault> {
     let whole = unit.name.of(work.text);
     let name = if whole.is_empty() {
+        work.remark(
+            unit.name.start,
+            "",
+            b"",
+            "no line names this unit, as systemctl cat prints one: it is called service",
+        )?;
         Some(b"service".as_slice())
     } else {
         whole.strip_suffix(b".service")
