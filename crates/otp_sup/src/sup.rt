@@ -1,5 +1,5 @@
 //! A table under its lock, beside its inbox.
-ghost use Rattle.std.specs.Prelude.{◌≡◌, ◌⊎◌, ◌+◌, ◌<◌, ◌≤◌, ◌↔◌, [], is_some, length, min, true, IsTrue, None, IfErr, IfOk, OnErr, OnOk, Ok};
+ghost use Rattle.std.specs.Prelude.{◌≡◌, ◌⊎◌, ◌+◌, ◌<◌, ◌≤◌, ◌↔◌, [], is_some, length, min, true, IsTrue, None, IfErr, IfOk, IfSome, OnErr, OnOk, Ok};
 ghost use Rattle.otp_spec.specs.declared.limits.TheConstants.{MAX_READING};
 ghost use Rattle.otp_inbox.specs.Tokens.{count_limit};
 ghost use Rattle.otp_bodies.specs.Bodies.{are_ready, bodies_in, count_opened, is_left_of, is_stray};
@@ -10,7 +10,7 @@ ghost use Rattle.otp_office.specs.Flushes.{SentOrders, was_sent};
 ghost use Rattle.otp_bodies.specs.Ports.{TookMore, carried, taken_by};
 ghost use Rattle.otp_sup.specs.Shares.{HasStarted};
 ghost use Rattle.otp_office.specs.Answers.{HasTurned};
-ghost use Rattle.otp_sup.specs.Turns.{HadBody, HadTurn, HasDeadline, HasReply, KeepsReply, IsFlushed, IsOfAnother, TurnedUnder};
+ghost use Rattle.otp_sup.specs.Turns.{HadBody, HadTurn, HasDeadline, HasReply, KeepsReply, IsFlushed, IsOfAnother, MayRest, TurnedUnder};
 ghost use Rattle.otp_office.specs.declared.turns.TurnAnswer.TheVariants as answer;
 
 use crate::naming::SupNaming;
@@ -139,6 +139,35 @@ impl<N: SupNaming, B: Drop> Sup<N, B> {
         let table = &*guard;
         table.keeps_rules();
         table.next_deadline()
+    }
+
+    /// Until when there is nothing to do for a turn under this process number that would be so told at this reading: the least
+    /// deadline of its children, if one has one. None where there is something already ([`Table::is_settled`]), or a letter waits.
+    ///
+    /// Whether one waits is a hint ([`Inbox::is_empty`]).
+    pub fn rests_until<R: Wait>(
+        &self,
+        rt: &R,
+        sender: &mut Sender<N, Message, Letter<B>>,
+        number: u64,
+        reading: u64,
+        told: Signal,
+    ) -> Option<Option<u64>>
+        requires { sender.old.inbox ≡ self.now.inbox }
+        ensures settled { IfSome result (MayRest N.plan number reading told) }
+        ensures sender { sender.new ≡ sender.old }
+    {
+        if !self.inbox.is_empty(sender) {
+            return None;
+        }
+        let guard = self.table.lock(rt);
+        let table = &*guard;
+        table.keeps_rules();
+        if table.is_settled(number, reading, told) {
+            Some(table.next_deadline())
+        } else {
+            None
+        }
     }
 
     /// The body that the call with this number brought: see [`Table::take_box`].
