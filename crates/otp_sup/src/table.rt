@@ -319,6 +319,14 @@ impl<N: SupNaming, B: Drop> Table<N, B> {
         flushed
     }
 
+    /// Whether an order is still to be sent.
+    pub fn has_orders(&self) -> bool
+        ensures { result ≡ false → self.now.office.outbox ≡ [] }
+    {
+        let _ = &self.taker;
+        self.office.is_pending()
+    }
+
     /// How many items it took from its inbox. The count stops at 2^62.
     pub fn taken_count(&self) -> u64
         ensures { result ≡ min (length self.now.taker.taken) count_limit }

@@ -280,6 +280,10 @@ impl<N: SupNaming, J: Job, S: Subsystem> System<N, J, S> {
         ensures passes { hand.new.passes ≡ hand.old.passes }
         ensures standing { standing_of hand.new ≡ standing_of hand.old }
     {
+        // Most often there is none; to take none costs as much as to take one.
+        if hand.runner.unsent.is_none() {
+            return true;
+        }
         let Some(
             Unsent {
                 ticket,
@@ -328,7 +332,7 @@ fn rest<N: SupNaming + RunNaming, J: Drop, S: Drop, R: Wait>(
 
 /// The supervisor's process that a hand has out waits from now on, where a turn more would find nothing to do. False where it doesn't.
 ///
-/// Where the hand has something to send for it, its process has a turn more after that.
+/// Where the hand has something to send for it, or other hands might take it, its process goes into the deque and has a turn more.
 fn rest_at_once<N: SupNaming + RunNaming, J: Drop, S: Drop, R: Wait>(
     rt: &R,
     hand: &mut Hand<N, J, S>,
@@ -343,7 +347,8 @@ fn rest_at_once<N: SupNaming + RunNaming, J: Drop, S: Drop, R: Wait>(
     ensures standing { standing_of hand.new ≡ standing_of hand.old }
     ensures kept { KeptAll hand.old hand.new }
 {
-    if hand.runner.unsent.is_some() || hand.runner.turning.is_none() {
+    let is_wanted = hand.runner.resting.is_wanted() || hand.runner.around.is_crowd();
+    if is_wanted || hand.runner.unsent.is_some() || hand.runner.turning.is_none() {
         return false;
     }
     let Some(due) = hand.senders.rests_until(rt, sup, number, reading, told) else {
