@@ -28,7 +28,7 @@ loop-table-preserved g c =
     record {
       more = more_again _ _ _ _ _ _ c.loop-table.invariant.more (flushes_more c.flush_next-flushed-in-loop-table.result _ _ _ _ _ _ c.flush_next-flushed-in-loop-table.ensures.flushed);
       orders = sent_again c.flush_next-flushed-in-loop-table.result _ _ _ _ _ _ _ _ c.loop-table.invariant.orders c.flush_next-flushed-in-loop-table.ensures.flushed;
-      taker = taken_again c.args.table.now.taker c.loop-table.table.taker c.flush_next-flushed-in-loop-table.new.self.taker c.loop-table.invariant.taker (taken_only _ _ _ c.flush_next-flushed-in-loop-table.ensures.taker);
+      taker = taken_again c.args.table.now.taker c.loop-table.table.taker c.flush_next-flushed-in-loop-table.new.table.taker c.loop-table.invariant.taker (taken_only _ _ _ c.flush_next-flushed-in-loop-table.ensures.taker);
       given = started_again _ _ _ _ _ _ c.loop-table.invariant.given (started_one _ _ _ _ _ (ap (λ (t : TakerState Message). t.given) c.flush_next-flushed-in-loop-table.ensures.taker) c.flush_next-flushed-in-loop-table.ensures.put);
       sender = credited_again c.args.sender.now c.loop-table.sender c.flush_next-flushed-in-loop-table.new.sender c.loop-table.invariant.sender (credited_only _ _ _ c.flush_next-flushed-in-loop-table.ensures.sender);
       credited = started_again _ _ _ _ _ _ c.loop-table.invariant.credited (started_one _ _ _ _ _ (ap (λ (s : SenderState Message). s.shares) c.flush_next-flushed-in-loop-table.ensures.sender) c.flush_next-flushed-in-loop-table.ensures.put);
