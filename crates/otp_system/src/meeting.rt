@@ -61,10 +61,11 @@ impl Meeting {
         }
     }
 
-    /// Whether a hand looked in vain in its last turn.
+    /// Whether a hand has nothing to do: it looked in vain in its last turn, or has not begun.
     pub fn has_idle(&self) -> bool {
         for mark in &self.marks {
-            if mark.load(Ordering::Relaxed) < BUSY {
+            let at = mark.load(Ordering::Relaxed);
+            if at != BUSY && at != GONE {
                 return true;
             }
         }
