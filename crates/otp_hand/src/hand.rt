@@ -107,6 +107,16 @@ impl<N: TreeNaming, J: Drop, S: Drop> Hand<N, J, S> {
         self.runner.around.note_crowd(is_crowd);
     }
 
+    /// Notes whether another hand has nothing to do: then supervisors that have nothing left to do go into the deque before they rest,
+    /// where that hand finds them.
+    pub fn note_wanted(&mut self, is_wanted: bool)
+        ensures unsent { self.new.unsent ≡ self.old.unsent }
+        ensures passes { self.new.passes ≡ self.old.passes }
+        ensures standing { standing_of self.new ≡ standing_of self.old }
+    {
+        self.runner.resting.note_wanted(is_wanted);
+    }
+
     /// How many processes its own deque has at most, which other hands might take.
     pub fn stock(&self) -> u32 {
         self.runner.around.stock()

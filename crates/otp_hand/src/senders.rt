@@ -11,7 +11,7 @@ ghost use Rattle.otp_rules.specs.declared.event.Item.TheVariants as item;
 ghost use Rattle.otp_rules.specs.Homes.{is_start_call};
 ghost use Rattle.otp_bodies.specs.declared.letter.Message.{Message};
 ghost use Rattle.otp_bodies.specs.Messages.{message, plain_message};
-ghost use Rattle.otp_sup.specs.Turns.{HadTurn};
+ghost use Rattle.otp_sup.specs.Turns.{HadTurn, MayRest};
 
 use crate::places::body_in;
 use otp_inbox::{Inbox, InboxNaming, Sender};
@@ -104,6 +104,25 @@ impl<N: InboxNaming, B: Drop> Senders<N, B> {
         let place = sup.inbox().number();
         let sender = &mut self.list[place];
         sup.turn(rt, words, sender, port, number, reading, told)
+    }
+
+    /// Until when there is nothing to do for a turn of a supervisor: see [`Sup::rests_until`].
+    pub fn rests_until<R: Wait>(
+        &mut self,
+        rt: &R,
+        sup: &Sup<N, B>,
+        number: u64,
+        reading: u64,
+        told: Signal,
+    ) -> Option<Option<u64>>
+    where
+        N: WordsNaming + PlanNaming,
+        requires { sup.now.inbox < length self.old }
+        ensures settled { IfSome result (MayRest N.plan number reading told) }
+        ensures same { self.new ≡ self.old }
+    {
+        let place = sup.inbox().number();
+        sup.rests_until(rt, &mut self.list[place], number, reading, told)
     }
 
     /// Whether there is a letter in the inbox of a supervisor. A hint ([`Inbox::is_empty`]).

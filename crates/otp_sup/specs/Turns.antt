@@ -172,6 +172,19 @@ pub record HasDeadline (plans : ℕ → Option Supervisor) (found : Option ℕ) 
   pub rules : KeepsRules plans table
   pub is : found ≡ next_deadline (state_of table.office.core).rows
 
+-- a turn under this process number, at this reading, so told, has nothing to do but for an item of the inbox
+pub record IsSettled (number reading : ℕ) (told : Signal) (t : TableView) : Type 0 where
+  pub early : early_answer t.office number ≡ None
+  pub due : due_kind (state_of t.office.core) number reading told ≡ None
+  pub lives : is_over (state_of t.office.core).phase ≡ false
+
+-- so it is with a table that keeps the rules, and this is the least deadline of its children
+pub record MayRest (plans : ℕ → Option Supervisor) (number reading : ℕ) (told : Signal) (found : Option ℕ) : Type 0 where
+  pub table : TableView
+  pub rules : KeepsRules plans table
+  pub settled : IsSettled number reading told table
+  pub is : found ≡ next_deadline (state_of table.office.core).rows
+
 -- a body was found exactly where a table that kept the rules had such a one
 pub record HadBody (plans : ℕ → Option Supervisor) (test : Kept → Bool) (found : Bool) : Type 0 where
   pub table : TableView

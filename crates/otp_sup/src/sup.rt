@@ -1,16 +1,17 @@
 //! A table under its lock, beside its inbox.
-ghost use Rattle.std.specs.Prelude.{◌≡◌, ◌⊎◌, ◌+◌, ◌<◌, ◌≤◌, ◌↔◌, [], is_some, length, min, true, IsTrue, None, IfErr, IfOk, OnErr, OnOk, Ok};
+ghost use Rattle.std.specs.Prelude.{◌≡◌, ◌⊎◌, ◌+◌, ◌<◌, ◌≤◌, ◌↔◌, [], is_some, length, min, true, IsTrue, None, IfErr, IfOk, IfSome, OnErr, OnOk, Ok};
 ghost use Rattle.otp_spec.specs.declared.limits.TheConstants.{MAX_READING};
 ghost use Rattle.otp_inbox.specs.Tokens.{count_limit};
 ghost use Rattle.otp_bodies.specs.Bodies.{are_ready, bodies_in, count_opened, is_left_of, is_stray};
 ghost use Rattle.otp_sup.specs.Anew.{IsOccupied, PlannedUnder, ToldUnused};
 ghost use Rattle.otp_sup.specs.Facts.{KeepsRules};
 ghost use Rattle.otp_office.specs.Orders.{starts_in};
-ghost use Rattle.otp_office.specs.Flushes.{SentOrders, was_sent};
+ghost use Rattle.otp_office.specs.Flushes.{FlushesTo, SentOrders, starts_flushed, was_sent};
+ghost use Rattle.otp_office.specs.Offices.{slot_to_start};
 ghost use Rattle.otp_bodies.specs.Ports.{TookMore, carried, taken_by};
-ghost use Rattle.otp_sup.specs.Shares.{HasStarted};
+ghost use Rattle.otp_sup.specs.Shares.{HasStarted, credited, gave, starts_of};
 ghost use Rattle.otp_office.specs.Answers.{HasTurned};
-ghost use Rattle.otp_sup.specs.Turns.{HadBody, HadTurn, HasDeadline, HasReply, KeepsReply, IsFlushed, IsOfAnother, TurnedUnder};
+ghost use Rattle.otp_sup.specs.Turns.{HadBody, HadTurn, HasDeadline, HasReply, KeepsReply, IsFlushed, IsOfAnother, MayRest, TurnedUnder};
 ghost use Rattle.otp_office.specs.declared.turns.TurnAnswer.TheVariants as answer;
 
 use crate::naming::SupNaming;
@@ -139,6 +140,35 @@ impl<N: SupNaming, B: Drop> Sup<N, B> {
         let table = &*guard;
         table.keeps_rules();
         table.next_deadline()
+    }
+
+    /// Until when there is nothing to do for a turn under this process number that would be so told at this reading: the least
+    /// deadline of its children, if one has one. None where there is something already ([`Table::is_settled`]), or a letter waits.
+    ///
+    /// Whether one waits is a hint ([`Inbox::is_empty`]).
+    pub fn rests_until<R: Wait>(
+        &self,
+        rt: &R,
+        sender: &mut Sender<N, Message, Letter<B>>,
+        number: u64,
+        reading: u64,
+        told: Signal,
+    ) -> Option<Option<u64>>
+        requires { sender.old.inbox ≡ self.now.inbox }
+        ensures settled { IfSome result (MayRest N.plan number reading told) }
+        ensures sender { sender.new ≡ sender.old }
+    {
+        if !self.inbox.is_empty(sender) {
+            return None;
+        }
+        let guard = self.table.lock(rt);
+        let table = &*guard;
+        table.keeps_rules();
+        if table.is_settled(number, reading, told) {
+            Some(table.next_deadline())
+        } else {
+            None
+        }
     }
 
     /// The body that the call with this number brought: see [`Table::take_box`].
@@ -381,8 +411,34 @@ fn flush_all<N: SupNaming, B: Drop, P: Port<B>>(
     ensures ends { table.new.ends_told ≡ table.old.ends_told }
     ensures count { bodies_in table.new.bodies + carried (P.processes port.new) ≡ bodies_in table.old.bodies + carried (P.processes port.old) }
 {
-    let mut flushed = table.flush_one(words, inbox, sender, port);
+    let mut flushed = flush_next(table, words, inbox, sender, port);
     while was_sent(flushed) {
-        flushed = table.flush_one(words, inbox, sender, port);
+        flushed = flush_next(table, words, inbox, sender, port);
     }
+}
+
+/// Sends the first order that is still to be sent ([`Table::flush_one`]), if there is one.
+fn flush_next<N: SupNaming, B: Drop, P: Port<B>>(
+    table: &mut Table<N, B>,
+    words: &Words<N>,
+    inbox: &Inbox<N, Message, Letter<B>>,
+    sender: &mut Sender<N, Message, Letter<B>>,
+    port: &mut P,
+) -> Flushed
+    requires inbox { inbox.now ≡ table.old.taker.inbox }
+    requires sender { sender.old.inbox ≡ inbox.now }
+    requires may_send { 0 < sender.old.parts }
+    ensures flushed { FlushesTo result table.old.office table.new.office (P.processes port.old) (P.notes port.old) (P.refusals port.old) (P.processes port.new) (P.notes port.new) (P.refusals port.new) }
+    ensures taker { table.new.taker ≡ gave (starts_of (starts_flushed result (slot_to_start table.old.office))) table.old.taker }
+    ensures sender { sender.new ≡ credited (starts_of (starts_flushed result (slot_to_start table.old.office))) sender.old }
+    ensures put { length (P.processes port.new) ≡ length (P.processes port.old) + starts_flushed result (slot_to_start table.old.office) }
+    ensures beside { P.beside port.new ≡ P.beside port.old }
+    ensures counts { table.new.counts ≡ table.old.counts }
+    ensures ends { table.new.ends_told ≡ table.old.ends_told }
+    ensures count { bodies_in table.new.bodies + carried (P.processes port.new) ≡ bodies_in table.old.bodies + carried (P.processes port.old) }
+{
+    if !table.has_orders() {
+        return Flushed::Empty;
+    }
+    table.flush_one(words, inbox, sender, port)
 }

@@ -21,7 +21,7 @@ ghost use Rattle.otp_bodies.specs.Ports.{carried};
 ghost use Rattle.otp_office.specs.Answers.{HasTurned, early_answer};
 ghost use Rattle.otp_sup.specs.Shares.{credited, gave, starts_of};
 ghost use Rattle.otp_office.specs.Events.{IsRefusal, Readied};
-ghost use Rattle.otp_sup.specs.Turns.{Turned};
+ghost use Rattle.otp_sup.specs.Turns.{IsSettled, Turned};
 
 use crate::cut::CutAnswer;
 use crate::moves::{come_back, happen};
@@ -250,6 +250,17 @@ impl<N: SupNaming, B: Drop> Table<N, B> {
         Ok(TurnAnswer::Took)
     }
 
+    /// Whether a turn under this process number, at this reading, so told, has nothing to do but for an item of the inbox: it would be
+    /// [`TurnAnswer::Quiet`] where there is none, and memory isn't refused.
+    pub fn is_settled(&self, number: u64, reading: u64, told: Signal) -> bool
+        ensures { IsTrue result → IsSettled number reading told self.now }
+    {
+        let _ = &self.taker;
+        self.office.early_answer(number).is_none()
+            && self.office.due_kind(number, reading, told).is_none()
+            && !self.office.has_ended()
+    }
+
     /// A pass, with which others read its counts without the lock ([`CountsPass::read`]). Takes no memory.
     ///
     /// Refused only where there are as many passes as a machine word counts.
@@ -306,6 +317,14 @@ impl<N: SupNaming, B: Drop> Table<N, B> {
             inbox.credit(&mut self.taker, sender, 1, 0);
         }
         flushed
+    }
+
+    /// Whether an order is still to be sent.
+    pub fn has_orders(&self) -> bool
+        ensures { result ≡ false → self.now.office.outbox ≡ [] }
+    {
+        let _ = &self.taker;
+        self.office.is_pending()
     }
 
     /// How many items it took from its inbox. The count stops at 2^62.

@@ -55,7 +55,21 @@ impl Meeting {
 
     /// Notes that a hand looks for something to do.
     pub fn begin(&self, hand: usize) {
-        self.mark(hand, BUSY);
+        // While it finds something it is marked so already.
+        if !self.is_busy(hand) {
+            self.mark(hand, BUSY);
+        }
+    }
+
+    /// Whether a hand has nothing to do: it looked in vain in its last turn, or has not begun.
+    pub fn has_idle(&self) -> bool {
+        for mark in &self.marks {
+            let at = mark.load(Ordering::Relaxed);
+            if at != BUSY && at != GONE {
+                return true;
+            }
+        }
+        false
     }
 
     /// Notes that a hand looked in vain after so many changes.
@@ -80,6 +94,13 @@ impl Meeting {
             }
         }
         true
+    }
+
+    fn is_busy(&self, hand: usize) -> bool {
+        match self.marks.get(hand) {
+            Some(at) => at.load(Ordering::Relaxed) == BUSY,
+            None => false,
+        }
     }
 
     fn mark(&self, hand: usize, mark: u64) {

@@ -161,6 +161,7 @@ where
         let changes = meeting.changes();
         if *vain != changes || hand.may_find(reading) {
             meeting.begin(index);
+            hand.note_wanted(meeting.has_idle());
             if system.turn(rt, hand, reading) || look_again(rt, system, hand, reading) {
                 meeting.found();
                 return true;

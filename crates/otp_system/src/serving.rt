@@ -226,7 +226,13 @@ impl<N: SupNaming, J: Job, S: Subsystem> System<N, J, S> {
         }
         listener.served(table);
         hear_posts(hand);
-        is_served(&answer)
+        if !is_served(&answer) {
+            return false;
+        }
+        if rest_at_once(rt, hand, sup, table, number, reading, told) {
+            listener.rests(table, parent);
+        }
+        true
     }
 
     /// The turn of this supervisor, which gives its orders to this hand.
@@ -274,6 +280,10 @@ impl<N: SupNaming, J: Job, S: Subsystem> System<N, J, S> {
         ensures passes { hand.new.passes ≡ hand.old.passes }
         ensures standing { standing_of hand.new ≡ standing_of hand.old }
     {
+        // Most often there is none; to take none costs as much as to take one.
+        if hand.runner.unsent.is_none() {
+            return true;
+        }
         let Some(
             Unsent {
                 ticket,
@@ -318,6 +328,34 @@ fn rest<N: SupNaming + RunNaming, J: Drop, S: Drop, R: Wait>(
 {
     let due = sup.next_deadline(rt);
     hand.runner.rest(table, told, due);
+}
+
+/// The supervisor's process that a hand has out waits from now on, where a turn more would find nothing to do. False where it doesn't.
+///
+/// Where the hand has something to send for it, or other hands might take it, its process goes into the deque and has a turn more.
+fn rest_at_once<N: SupNaming + RunNaming, J: Drop, S: Drop, R: Wait>(
+    rt: &R,
+    hand: &mut Hand<N, J, S>,
+    sup: &Sup<N, Body<J, S>>,
+    table: usize,
+    number: u64,
+    reading: u64,
+    told: Signal,
+) -> bool
+    requires { sup.now.inbox < length hand.old.senders }
+    ensures passes { hand.new.passes ≡ hand.old.passes }
+    ensures standing { standing_of hand.new ≡ standing_of hand.old }
+    ensures kept { KeptAll hand.old hand.new }
+{
+    let is_wanted = hand.runner.resting.is_wanted() || hand.runner.around.is_crowd();
+    if is_wanted || hand.runner.unsent.is_some() || hand.runner.turning.is_none() {
+        return false;
+    }
+    let Some(due) = hand.senders.rests_until(rt, sup, number, reading, told) else {
+        return false;
+    };
+    hand.runner.rest(table, told, due);
+    hand.runner.turning.is_none()
 }
 
 /// A hand notes what was posted in a supervisor's turn. What is posted while nobody waits stays noted: those that wait later are

@@ -11,6 +11,9 @@ use std::marker::Model;
 /// How many of them are looked at in each turn, one after the other.
 const FEW: usize = 2;
 
+/// For so many supervisors, those with the least numbers, is noted where each began to wait.
+const NOTED: usize = 64;
+
 /// A supervisor's process that waits, the signal that it knew of when it began to, and the least deadline of its children.
 #[derive(Drop)]
 pub struct Rested<J: Drop, S: Drop> {
@@ -30,6 +33,10 @@ pub struct Resting<J: Drop, S: Drop> {
     next: usize,
     // The supervisor to which the hand has just sent a letter.
     called: Option<usize>,
+    // Where the supervisor with each number waits most likely: there is looked first.
+    places: [u8; NOTED],
+    // Whether another hand has nothing to do.
+    is_wanted: bool,
 }
 
 impl<J: Drop, S: Drop> Model for Resting<J, S> {
@@ -50,6 +57,8 @@ impl<J: Drop, S: Drop> Resting<J, S> {
             list: Vec::new(alloc),
             next: 0,
             called: None,
+            places: [0; NOTED],
+            is_wanted: false,
         }
     }
 
@@ -74,8 +83,21 @@ impl<J: Drop, S: Drop> Resting<J, S> {
         if self.list.reserve(1).is_err() {
             return Some(rested);
         }
+        note_place(&mut self.places, rested.table, self.list.len());
         self.list.push_reserved(rested);
         None
+    }
+
+    /// Notes whether another hand has nothing to do.
+    pub fn note_wanted(&mut self, is_wanted: bool)
+        ensures { self.new ≡ self.old }
+    {
+        self.is_wanted = is_wanted;
+    }
+
+    /// Whether a supervisor that has nothing left to do is to go into the deque before it waits, since another hand may take it there.
+    pub fn is_wanted(&self) -> bool {
+        self.is_wanted
     }
 
     /// Takes out the one that began to wait last.
@@ -90,7 +112,12 @@ impl<J: Drop, S: Drop> Resting<J, S> {
         requires { place < length self.old }
         ensures { IsTaken result self.old self.new }
     {
-        self.list.swap_remove(place)
+        let rested = self.list.swap_remove(place);
+        // The last stands here now.
+        if place < self.list.len() {
+            note_place(&mut self.places, self.list[place].table, place);
+        }
+        rested
     }
 
     /// Notes that a letter has just gone to the supervisor with this number: its process has the hand's next turn, if it
@@ -106,8 +133,8 @@ impl<J: Drop, S: Drop> Resting<J, S> {
         ensures { MatchOption result (self.new ≡ self.old) (λ rested. IsTaken rested self.old self.new) }
     {
         let table = self.called.take()?;
-        let place = find_table(self.list.as_slice(), table)?;
-        Some(self.list.swap_remove(place))
+        let place = find_noted(self.list.as_slice(), &self.places, table)?;
+        Some(self.take_at(place))
     }
 
     /// The least of the deadlines for which they wait.
@@ -150,6 +177,30 @@ fn earlier(one: Option<u64>, other: Option<u64>) -> Option<u64>
         (Some(one), None) => Some(one),
         (None, other) => other,
     }
+}
+
+/// Notes that the process of the supervisor with this number stands at this place.
+fn note_place(places: &mut [u8; NOTED], table: usize, place: usize) {
+    if table < NOTED {
+        places[table] = (place % 256) as u8;
+    }
+}
+
+/// The place of the process of the supervisor with this number: where it was noted, if it stands there, and else what a walk finds.
+fn find_noted<J: Drop, S: Drop>(
+    resting: &[Rested<J, S>],
+    places: &[u8; NOTED],
+    table: usize,
+) -> Option<usize>
+    ensures { IfSome result (λ place. place < length resting.now) }
+{
+    if table < NOTED {
+        let place = places[table] as usize;
+        if place < resting.len() && resting[place].table == table {
+            return Some(place);
+        }
+    }
+    find_table(resting, table)
 }
 
 /// The place of the process of the supervisor with this number.
