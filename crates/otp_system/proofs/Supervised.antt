@@ -1,5 +1,5 @@
 -- What follows of the process that is out from what is known of the supervisor in it.
-use Rattle.std.proofs.Common.{◌≡◌, ℕ, Bool, true, false, List, Option, Some, None, Result, refl, sym, ap, subst, inl, inr}
+use Rattle.std.proofs.Common.{◌≡◌, ℕ, Bool, true, false, List, Option, Some, None, Result, refl, sym, ap, subst, inl, inr, ◌∙◌}
 use Rattle.std.specs.Prelude.{IfSome, MatchOption, is_some, length, map}
 use Rattle.std.proofs.lemmas.Bool.{false≢true}
 use Rattle.std.proofs.lemmas.Option.{none-some}
@@ -72,6 +72,14 @@ module _ {J S : Type 0} where
       let one : Had new.scheduler mid.unsent mid.refusals = subst (λ (s : SchedulerState). Had s mid.unsent mid.refusals) (sym kept.scheduler) turn in
       let two : Had new.scheduler new.unsent mid.refusals = subst (λ (u : Option (Unsent J S)). Had new.scheduler u mid.refusals) (sym kept.unsent) one in
       subst (λ (n : ℕ). Had new.scheduler new.unsent n) (sym kept.refusals) two
+
+  -- and so did not what came after that
+  pub kept_on : (one two three : HandView J S) → KeptAll one two → KeptAll two three → KeptAll one three
+  kept_on one two three first second = record {
+    scheduler = second.scheduler ∙ first.scheduler;
+    unsent = second.unsent ∙ first.unsent;
+    refusals = second.refusals ∙ first.refusals;
+  }
 
   -- such a turn of the supervisor with the inbox of its place
   pub was_served : (plans : ℕ → Option Supervisor) (tables table inbox number reading : ℕ) (told : Signal) (served : Bool) (result : Result TurnAnswer TurnFault) (old mid new : HandView J S) → inbox ≡ table

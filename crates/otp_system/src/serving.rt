@@ -226,13 +226,11 @@ impl<N: SupNaming, J: Job, S: Subsystem> System<N, J, S> {
         }
         listener.served(table);
         hear_posts(hand);
-        if !is_served(&answer) {
-            return false;
-        }
-        if rest_at_once(rt, hand, sup, table, number, reading, told) {
+        let served = is_served(&answer);
+        if rest_at_once(rt, hand, sup, table, number, reading, told, served) {
             listener.rests(table, parent);
         }
-        true
+        served
     }
 
     /// The turn of this supervisor, which gives its orders to this hand.
@@ -330,7 +328,8 @@ fn rest<N: SupNaming + RunNaming, J: Drop, S: Drop, R: Wait>(
     hand.runner.rest(table, told, due);
 }
 
-/// The supervisor's process that a hand has out waits from now on, where a turn more would find nothing to do. False where it doesn't.
+/// The supervisor's process that a hand has out waits from now on, where a turn more would find nothing to do. False where it doesn't:
+/// one that wasn't served has a turn more.
 ///
 /// Where the hand has something to send for it, or other hands might take it, its process goes into the deque and has a turn more.
 fn rest_at_once<N: SupNaming + RunNaming, J: Drop, S: Drop, R: Wait>(
@@ -341,14 +340,17 @@ fn rest_at_once<N: SupNaming + RunNaming, J: Drop, S: Drop, R: Wait>(
     number: u64,
     reading: u64,
     told: Signal,
+    served: bool,
 ) -> bool
-    requires { sup.now.inbox < length hand.old.senders }
     ensures passes { hand.new.passes ≡ hand.old.passes }
     ensures standing { standing_of hand.new ≡ standing_of hand.old }
     ensures kept { KeptAll hand.old hand.new }
 {
     let is_wanted = hand.runner.resting.is_wanted() || hand.runner.around.is_crowd();
-    if is_wanted || hand.runner.unsent.is_some() || hand.runner.turning.is_none() {
+    if !served || is_wanted || hand.runner.unsent.is_some() || hand.runner.turning.is_none() {
+        return false;
+    }
+    if sup.inbox().number() >= hand.senders.len() {
         return false;
     }
     let Some(due) = hand.senders.rests_until(rt, sup, number, reading, told) else {
