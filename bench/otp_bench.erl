@@ -1,4 +1,4 @@
-%% The same work as bench/run gives to the program, done by Erlang/OTP's own supervisor.
+%% The work that bench/run gives to the program, done by Erlang/OTP's own supervisor.
 %% erl -noshell -pa DIR -run otp_bench main WORK HOW N
 %%   WORK: storm (N restarts of one child), storm50 (the same at intensity 50), all (N restarts of 256 children under one_for_all),
 %%         calls (N calls, which_children and count_children in turn, over 256 children),

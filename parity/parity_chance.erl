@@ -1,6 +1,6 @@
 %% Scripts by chance: a tree and lines that are drawn as the play goes on, out of those that can be played.
 %%
-%% The same seed draws the same tree and, with the same OTP, the same lines.
+%% A seed draws one tree and, with one OTP, the same lines each time.
 -module(parity_chance).
 -export([tree/1, line/1]).
 

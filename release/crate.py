@@ -6,7 +6,7 @@ import shutil
 
 from common import DAEMON, LIBRARY, ROOT, TARGET, copy, put, run, statements, sum_of
 
-# That of the core, and those that stand on it.
+# The crate of the core, and those that stand on it.
 CRATES = (LIBRARY, "otp-threads", DAEMON)
 
 

@@ -9,7 +9,7 @@ KINDS = """[{id = "a", start = "m"}, {id = "b", start = "m", restart = "transien
 {id = "d", start = "m", shutdown = 7}, {id = "e", start = "m", restart = "transient", shutdown = "brutal_kill"}, \
 {id = "f", start = "m", restart = "temporary"}, {id = "g", start = "m", type = "supervisor"}, \
 {id = "h", start = "m", type = "supervisor"}]"""
-# The same, significant where they may be.
+# These children, significant where they may be.
 SIGNIFICANT = """[{id = "a", start = "m"}, {id = "b", start = "m", restart = "transient", significant = true}, \
 {id = "c", start = "m", restart = "temporary", significant = true}, {id = "d", start = "m"}, \
 {id = "e", start = "m", restart = "transient", significant = true}, \

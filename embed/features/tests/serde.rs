@@ -70,7 +70,7 @@ fn a_draft_has_the_keys_of_a_tree_file() {
     let again: Draft = serde_json::from_str(&serde_json::to_string(&draft).unwrap()).unwrap();
     assert_eq!(again, draft);
     assert!(Tree::of_draft(&draft).is_ok());
-    // The same draft as the same file says it: what isn't said there is as here.
+    // A file that says this draft: what isn't said there is as here.
     let file = "strategy = \"one_for_all\"\nintensity = 3\nperiod = 60\n[[child]]\nid = \"db\"\nstart = \"postgres\"\nshutdown = 2500\n\
                 [[child]]\nid = \"pool\"\nstart = \"pool\"\n[child.tree]\n[[child.tree.child]]\nid = \"a\"\nstart = \"fetch\"\nrestart = \"transient\"\n";
     let (one, other) = (Tree::of_draft(&draft).unwrap(), Tree::open(file).unwrap());

@@ -44,7 +44,7 @@ impl Beginning {
         }
     }
 
-    /// The same, for which so long is waited.
+    /// How it began, for which so long is waited.
     pub fn wait(&mut self, time: Duration) -> Option<Result<(), NotStarted>> {
         let begun = Instant::now();
         loop {

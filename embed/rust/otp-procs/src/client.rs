@@ -152,7 +152,7 @@ fn without_end(answer: &[u8]) -> Option<&[u8]> {
     ended(answer).map(|(text, _)| text)
 }
 
-/// The same with the exit status.
+/// The text of an answer, with the exit status.
 pub fn ended(answer: &[u8]) -> Option<(&[u8], u8)> {
     let line = answer.strip_suffix(b"\n")?;
     let at = line.iter().rposition(|&byte| byte == b'\n').map_or(0, |end| end + 1);

@@ -94,7 +94,7 @@ pub fn socket_in(folder: &Path) -> PathBuf {
 pub enum Spoken {
     /// This client has asked for this.
     Asked(u64, String),
-    /// The same by HTTP.
+    /// This client has asked by HTTP.
     AskedHttp(u64, Head),
     /// Somebody of this user was turned away.
     TurnedAway(u32),

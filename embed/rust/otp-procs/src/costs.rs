@@ -277,7 +277,7 @@ fn cost_by_rules(play: &mut Play<'_>, path: &str) -> Result<Cost, Fault> {
     Ok(cost)
 }
 
-/// The same of one that fails alone: its supervisor is told another end, and the daemon starts it later.
+/// What crashes cost of one that fails alone: its supervisor is told another end, and the daemon starts it later.
 fn cost_alone(retry: Retry, play: &mut Play<'_>, path: &str) -> Result<Cost, Fault> {
     let mut cost = Cost::default();
     for times in 1.. {

@@ -54,7 +54,7 @@ impl Daemon {
         record.number("number", process.number.number()).number("supervisor", u64::from(process.supervisor.number()))
     }
 
-    /// The same for one that was started, whose path was made then.
+    /// An order on a process that was started, whose path was made then.
     fn order_on(&mut self, what: &'static str, process: &Process) -> Record {
         let path = self.live.get(&process.number).map(|live| live.path.clone());
         let path = path.unwrap_or_else(|| self.path_of(process));

@@ -146,7 +146,7 @@ fn own_folder() -> Option<PathBuf> {
     folder_in(&own, &mounts)
 }
 
-/// The same from the texts of these files.
+/// The folder of its own group, by the texts of these files.
 fn folder_in(own: &str, mounts: &str) -> Option<PathBuf> {
     let path = own.lines().find_map(|line| line.strip_prefix("0::"))?;
     mounts.lines().find_map(|line| {

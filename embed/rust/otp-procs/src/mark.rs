@@ -21,7 +21,7 @@ pub struct Mark {
 }
 
 impl Mark {
-    /// That of this process, whose place is its control folder, or without one its tree file.
+    /// The mark of this process, whose place is its control folder, or without one its tree file.
     pub fn new(place: &Path) -> io::Result<Self> {
         let place = place.canonicalize().or_else(|_| std::path::absolute(place))?.into_os_string();
         let pid = std::process::id();

@@ -49,7 +49,7 @@ pub struct Past {
 }
 
 impl Past {
-    /// That of a supervisor which the library begins to tell of now, and which had restarted children at these readings.
+    /// Of a supervisor which the library begins to tell of now, and which had restarted children at these readings.
     pub fn going_on(counts: Counts, times: impl IntoIterator<Item = u64>, now: &Supervisor) -> Self {
         let before = Before { counts, restarts: now.restarts, starts: now.starts, phase: now.phase };
         Past { times: times.into_iter().collect(), starts: now.starts, restarts: now.restarts, before: Some(before) }

@@ -69,7 +69,7 @@ enum Speaks {
     Lines,
     /// By HTTP.
     Http,
-    /// The same, and it wants the head of its answer alone.
+    /// By HTTP, and it wants the head of its answer alone.
     HttpHead,
 }
 

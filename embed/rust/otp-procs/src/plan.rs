@@ -133,7 +133,7 @@ pub struct Retry {
     pub is_always: bool,
     /// So often in a row.
     pub give_up_after: Option<u32>,
-    /// And then.
+    /// What is done after so many.
     pub on_give_up: OnGiveUp,
 }
 

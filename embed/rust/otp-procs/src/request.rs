@@ -25,11 +25,11 @@ pub enum Wanted {
 pub enum Request {
     /// The tree as it stands; for machines where true.
     Status(bool),
-    /// The same of the children that a path or a pattern means.
+    /// The children that a path or a pattern means, as they stand.
     StatusOf(String, bool),
     /// What `which_children` of the supervisor with this path would answer.
     Which(String),
-    /// The same of `count_children`.
+    /// What `count_children` of it would answer.
     Count(String),
     /// A child without a process is started, or one more child of a `simple_one_for_one`.
     Start(String),

@@ -33,7 +33,7 @@ fn old(path: &Path, number: u32) -> PathBuf {
 }
 
 impl Turning {
-    /// That of a file which is open. What is torn in it ends its line by what is written next.
+    /// Of a file which is open. What is torn in it ends its line by what is written next.
     pub fn new(path: &Path, rotation: Rotation, file: &File) -> Self {
         let size = file.metadata().map_or(0, |found| found.len());
         Turning { path: path.to_path_buf(), rotation, size, is_at_line: true }

@@ -96,7 +96,7 @@ fn words_of_usage(usage: Usage) -> String {
     format!("{memory}{processor}")
 }
 
-/// The same for machines.
+/// What a process uses, for machines.
 fn usage_json(usage: Usage) -> String {
     let memory = usage.memory.map_or(String::new(), |bytes| format!(",\"memory_bytes\":{bytes}"));
     let processor = usage.processor_ms.map_or(String::new(), |time| format!(",\"processor_ms\":{time}"));

@@ -66,7 +66,7 @@ pub struct Entry {
 }
 
 impl Entry {
-    /// The same of an instance, whose name stands for `{i}`.
+    /// This entry of an instance, whose name stands for `{i}`.
     pub fn with_instance(self, instance: Option<&str>) -> Self {
         match instance {
             Some(name) => Entry { value: self.value.with_instance(name), ..self },
@@ -89,7 +89,7 @@ pub enum Value {
 }
 
 impl Value {
-    /// The same where `{i}` in a string is the name of an instance.
+    /// This value where `{i}` in a string is the name of an instance.
     pub fn with_instance(&self, name: &str) -> Self {
         match self {
             Value::Text(text) => Value::Text(text.replace("{i}", name)),
@@ -128,7 +128,7 @@ pub fn read(file: &str, text: &str) -> Result<Document, BadLine> {
     read_from(&file.into(), 1, text)
 }
 
-/// The same of a text that stands in a file from this line on.
+/// Reads a text that stands in a file from this line on.
 pub fn read_from(file: &Rc<str>, line: usize, text: &str) -> Result<Document, BadLine> {
     let mut reader = Reader { rest: text, file: file.clone(), line };
     let mut read = Document::default();

@@ -111,7 +111,7 @@ fn two_files_have_includes_and_templates_too() {
     daemon.wait_ready();
     assert_eq!(daemon.story(), ["start a #1", "-> up a #1", "ready"]);
     assert_eq!(daemon.stop(), 0);
-    // The same children with their commands in the tree give the same orders.
+    // These children with their commands in the tree give the same orders.
     let one = "[[child]]\nid = \"a\"\ncommand = ['sleep', '1000']\n[[child]]\nid = \"b\"\nenabled = false\ncommand = ['nowhere']\n";
     let before = daemon.story();
     write(&folder, &[("tree.toml", one), ("commands.toml", ""), ("log", "")]);

@@ -205,7 +205,7 @@ fn a_socket_is_its_users_alone_and_goes_with_who_serves_it() {
     let found = socket.symlink_metadata().unwrap();
     assert!(found.file_type().is_socket());
     assert_eq!(found.permissions().mode() & 0o7777, 0o600);
-    // The same place isn't taken twice, and what is no socket is left alone.
+    // A place isn't taken twice, and what is no socket is left alone.
     let other = |words: &[&str]| {
         let mut command = Command::new(PROGRAM);
         command.args(["ctl", "--control"]).arg(daemon.folder.join("control")).args(["page", "--serve"]).args(words);

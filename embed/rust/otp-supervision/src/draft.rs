@@ -96,7 +96,7 @@ impl Draft {
         self.supervisor_as(spec, tree)
     }
 
-    /// The same with a specification of one's own.
+    /// Adds a supervisor with this draft, by a specification of one's own.
     #[must_use]
     pub fn supervisor_as(mut self, spec: ChildSpec, tree: Draft) -> Self {
         self.children.push(Member { spec, tree: Some(tree) });

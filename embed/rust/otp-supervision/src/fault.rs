@@ -236,7 +236,7 @@ impl TreeFault {
         fault
     }
 
-    /// The same of a file that nobody has seen: it has no line.
+    /// This fault of a file that nobody has seen: it has no line.
     pub(crate) fn without_line(self) -> Self {
         TreeFault { place: self.place.map(|place| FaultPlace { line: None, ..place }), ..self }
     }

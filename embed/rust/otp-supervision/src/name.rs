@@ -237,7 +237,7 @@ pub enum Reason {
     Normal,
     /// It was told to shut down, and did.
     Shutdown,
-    /// The same, with a text.
+    /// It was told to shut down, and did, with a text.
     ShutdownWith(Text),
     /// It ended with the reason `kill`, without having been killed.
     Kill,

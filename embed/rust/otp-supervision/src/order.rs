@@ -134,7 +134,7 @@ pub enum OrderRef<'a> {
 }
 
 impl OrderRef<'_> {
-    /// The same with a copy of what it names.
+    /// This order, with a copy of what it names.
     ///
     /// # Errors
     /// [`Fault::Unknown`], where library and crate don't belong together.

@@ -101,7 +101,7 @@ words! {
         Never = 1 "never",
         /// The end of any.
         AnySignificant = 2 "any_significant",
-        /// That of the last.
+        /// The end of the last.
         AllSignificant = 3 "all_significant",
     }
 }

@@ -36,7 +36,7 @@ impl Tags {
         Tags { first: numbers_in(text).max().map_or(0, |last| last + 1), ..Tags::default() }
     }
 
-    /// The same words, where the tree goes on under this file; nothing where the file may have one of these, or of those to come.
+    /// These words, where the tree goes on under this file; nothing where the file may have one of these, or of those to come.
     pub(crate) fn and_beside(&self, text: &[u8]) -> Option<Self> {
         let first = Tags::beside(text).first;
         let is_free = first <= self.first || self.tagged.is_empty();

@@ -181,7 +181,7 @@ impl Tree {
         self.change_with(text, tags)
     }
 
-    /// The same under a draft.
+    /// The tree goes on under a draft ([`Tree::change`]).
     ///
     /// # Errors
     /// [`ChangeError`] says why it isn't done. The tree is then as it was.
@@ -451,7 +451,7 @@ impl Tree {
         }
     }
 
-    /// The same of a tree that is watched: what became of nested supervisors on the way to the next order comes before it.
+    /// The next order of a tree that is watched: what became of nested supervisors on the way to the next order comes before it.
     fn next_watched(&mut self) -> Result<Option<OrderRef<'_>>, Fault> {
         let Some(watch) = &mut self.watch else { return Ok(None) };
         if !self.is_held && watch.untold.is_empty() {

@@ -160,7 +160,7 @@ fn what_is_told_after_a_long_sleep_has_its_own_time() {
     assert_eq!(tree.next_order().unwrap().unwrap().to_string(), "ask a #3");
     tree.note(at(1_000), sup(0), Note::Exit(pid(3), Reason::Shutdown)).unwrap();
     assert_eq!(serve_at(7_200_000, &mut tree), ["start a #5", "start b #6"]);
-    // And one that follows within the period is one too many.
+    // One that follows within the period is one too many.
     tree.note(at(7_205_000), sup(0), Note::Exit(pid(6), crash())).unwrap();
     assert_eq!(serve_at(7_205_000, &mut tree), ["ask a #5", "end shutdown"]);
 }

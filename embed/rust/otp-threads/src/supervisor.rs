@@ -91,7 +91,7 @@ impl Supervisor {
         self.add(id, Child::new(body))
     }
 
-    /// The same, where more is to be said of it.
+    /// Adds a child of which more is to be said.
     #[must_use]
     pub fn add(mut self, id: &str, child: Child) -> Self {
         self.members.push((id.to_string(), Member::Child(child)));

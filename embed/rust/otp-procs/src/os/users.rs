@@ -10,7 +10,7 @@ pub struct User {
     pub name: String,
     /// The number.
     pub uid: u32,
-    /// That of its own group.
+    /// The number of its own group.
     pub gid: u32,
     /// Its home.
     pub home: String,

@@ -11,7 +11,7 @@ use std::rc::Rc;
 const ASKING: u64 = 5_000;
 /// So many to read its answer, or one event.
 const READING: u64 = 60_000;
-/// And so many until it hangs up, once it has all.
+/// So many until it hangs up, once it has all.
 const LINGERING: u64 = 1_000;
 
 /// What follows what happens.

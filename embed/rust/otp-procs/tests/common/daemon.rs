@@ -104,7 +104,7 @@ impl Daemon {
         Daemon::start_by(folder, Command::new(PROGRAM), flags)
     }
 
-    /// The same by a command that runs the program with the words behind it.
+    /// Starts one by a command that runs the program with the words behind it.
     pub fn start_by(folder: PathBuf, mut command: Command, flags: &[&str]) -> Daemon {
         let mark = folder.file_name().unwrap().to_str().unwrap().to_string();
         command.args(["run", "tree.toml", "commands.toml"]).args(flags).current_dir(&folder);
