@@ -1,6 +1,7 @@
 // Trees that run until they have ended by themselves, or were stopped.
 use crate::guests::{Kind, Outcome, Shared, flags, run_watched, same, tree, unwatched};
 use otp_live::{Happening, Seen, Watch};
+use otp_reason::Reason;
 use std::alloc::Global;
 use std::process::Abort;
 use std::sync::atomic::{AtomicU64, Ordering};
@@ -218,6 +219,36 @@ fn a_watch_is_told_who_gave_up(rt: HostRuntime) {
     // At each opening of the one below its child starts, and so does the root; the rest are restarts.
     is_told(&rt, "the starts", &counting.started, 5);
     is_told(&rt, "the restarts", &counting.restarted, 8);
+}
+
+// Notes when it is told that a process was killed.
+#[derive(Drop)]
+struct Timing {
+    killed: AtomicU64,
+}
+
+impl Watch for Timing {
+    fn saw(&self, seen: Seen) {
+        if let Happening::Exited(_, Reason::Killed) = seen.what {
+            self.killed.store(seen.at, Ordering::SeqCst);
+        }
+    }
+}
+
+// A watch is told when something happens: a child that doesn't heed the shutdown is killed 20 ms after it, and so into the run.
+#[test]
+fn a_watch_is_told_when(rt: HostRuntime) {
+    let shared = Shared::new(&rt, rt.alloc());
+    let timing = Timing {
+        killed: AtomicU64::new(0),
+    };
+    let kinds = [Kind::Deaf, Kind::Stops(2)];
+    let plans = tree(&rt, rt.alloc(), &kinds, &[], &shared, flags(1));
+    let seen = run_watched(&rt, rt.alloc(), plans, 2, &shared.stop, &timing);
+    drop(shared);
+    same(&rt, "the processes that are left", seen.live, 0);
+    let killed = timing.killed.load(Ordering::SeqCst);
+    assert!(rt; killed >= 20 && killed < 60_000);
 }
 
 fn is_told(rt: &impl Abort, what: &str, told: &AtomicU64, wanted: u64) {

@@ -156,10 +156,25 @@ where
     drop(got(rt, "the readers weren't run", ran));
 }
 
-// Posts the numbers below it.
-fn post_all<R: Wait + Abort>(rt: &R, posts: &Mailbox<u64>, count: u64) {
+// Waits until so much was added up.
+fn wait_until_added(sum: &AtomicU64, wanted: u64) {
+    for _ in 0..u64::MAX {
+        if sum.load(Ordering::SeqCst) >= wanted {
+            return;
+        }
+        thread::yield_now();
+    }
+}
+
+// Posts the numbers below it, each hundred once those before were taken: the job waits then, or soon.
+fn post_all<R: Wait + Abort>(rt: &R, posts: &Mailbox<u64>, sum: &AtomicU64, count: u64) {
+    let mut posted: u64 = 0;
     for number in 0..count {
+        if number % 100 == 0 {
+            wait_until_added(sum, posted);
+        }
         assert!(rt; posts.post(rt, number).is_ok());
+        posted = posted.saturating_add(number);
     }
 }
 
@@ -208,8 +223,23 @@ fn a_mailbox_wakes_its_job(rt: HostRuntime) {
     let ((), ()) = thread::join(
         &rt,
         || run_readers(&rt, rt.alloc(), plans, &shelf.stop),
-        || post_all(&rt, &shelf.posts, POSTS),
+        || post_all(&rt, &shelf.posts, &shelf.sum, POSTS),
     );
     same(&rt, "the sum", shelf.sum.load(Ordering::SeqCst), 499_500);
     drop(shelf);
+}
+
+// What was posted comes once each, the first first.
+#[test]
+fn a_mailbox_gives_what_was_posted_in_its_order(rt: HostRuntime) {
+    let posts = got(&rt, MEMORY, Mailbox::new(rt.alloc()));
+    same(&rt, "what was there before", posts.take(&rt), None);
+    for number in 0..3u64 {
+        assert!(rt; posts.post(&rt, number).is_ok());
+    }
+    for number in 0..3 {
+        same(&rt, "what was posted", posts.take(&rt), Some(number));
+    }
+    same(&rt, "what is left", posts.take(&rt), None);
+    drop(posts);
 }
