@@ -5,6 +5,7 @@ use crate::groups::Usage;
 use crate::keeper::Kept;
 use crate::live::{Live, Stage};
 use crate::log::quoted;
+use crate::metrics::{Last, Tally};
 use otp_supervision::{Child, ChildState, Phase, Reading, Supervisor, SupervisorId, Tree};
 use std::fmt::Write;
 
@@ -89,6 +90,29 @@ fn words_of_child(child: &Child, live: Option<&Live>, is_changed: bool, now: u64
     words.trim_end().to_string()
 }
 
+/// How often a child was started, and how it ended last, in words.
+fn words_of_tally(tally: &Tally) -> String {
+    let mut words = String::new();
+    if tally.starts > 1 {
+        let _ = write!(words, "  {} starts", tally.starts);
+    }
+    if let Some(Last { text, has_begun, .. }) = &tally.last {
+        let what = if *has_begun { "last ended" } else { "last start failed" };
+        let _ = write!(words, "  {what}: {text}");
+    }
+    words
+}
+
+/// The same for machines.
+fn tally_json(tally: &Tally) -> String {
+    let mut text = format!(",\"starts\":{}", tally.starts);
+    if let Some(Last { at, text: last, has_begun, .. }) = &tally.last {
+        let key = if *has_begun { "last_end" } else { "last_failed_start" };
+        let _ = write!(text, ",\"{key}\":{},\"{key}_ms\":{at}", quoted(last));
+    }
+    text
+}
+
 /// What a control group takes, in words.
 fn words_of_usage(usage: Usage) -> String {
     let memory = usage.memory.map_or(String::new(), |bytes| format!("  memory {} KiB", bytes / 1024));
@@ -148,6 +172,11 @@ impl Daemon {
             None if kept.is_held => Some(Waits::Held(kept.times)),
             None => None,
         }
+    }
+
+    fn tally_of(&self, supervisor: SupervisorId, child: &Child) -> Option<&Tally> {
+        let above = self.paths.get(supervisor.index())?;
+        self.tallies.get(&format!("{above}{}", child.id?))
     }
 
     /// Whether a process would run otherwise if it were started now, since the files were read anew.
@@ -221,7 +250,8 @@ fn add_child(
             Some(Waits::ForClient) => "down, ctl start starts it".to_string(),
             None => words_of_child(child, live, live.is_some_and(|live| daemon.is_changed(live)), daemon.reading),
         };
-        let _ = writeln!(text, "{name:<COLUMN$} {words}");
+        let tally = daemon.tally_of(supervisor, child).map_or_else(String::new, words_of_tally);
+        let _ = writeln!(text, "{name:<COLUMN$} {words}{tally}");
     }
 }
 
@@ -322,6 +352,9 @@ fn add_child_json(daemon: &mut Daemon, supervisor: SupervisorId, child: &Child, 
                 let _ = write!(text, ",\"says\":{}", quoted(words));
             }
         }
+    }
+    if child.nested.is_none() {
+        text.push_str(&daemon.tally_of(supervisor, child).map_or_else(String::new, tally_json));
     }
     match daemon.waits_of(supervisor, child) {
         Some(Waits::For(other)) => drop(write!(text, ",\"waits_for\":{}", quoted(&other))),

@@ -57,6 +57,29 @@ fn a_status_tells_what_a_script_wants_to_know() {
 }
 
 #[test]
+fn a_status_tells_how_often_a_child_was_started_and_how_it_ended_last() {
+    let fails = "[b]\ncommand = ['/nowhere/program']\nrestart_after = '1h'\n";
+    let mut daemon = Daemon::start(
+        &[child("a", ""), child("b", "restart = \"transient\""), child("pool", POOL)].concat(),
+        &format!("{STEADY}{fails}"),
+    );
+    daemon.wait_ready();
+    let status = |words: &[&str]| ctl(&daemon, &[&["status"], words].concat()).1;
+    assert!(status(&["a"]).ends_with(" s\n") && !status(&["a", "--json"]).contains("last_"));
+    send(pid_of(&daemon, "a", 1), 9);
+    pid_of(&daemon, "a", 2);
+    assert!(ctl(&daemon, &["wait", "a", "up"]).0 == 0);
+    assert!(status(&["a"]).ends_with("  2 starts  last ended: signal 9 (KILL)\n"), "{}", status(&["a"]));
+    let json = status(&["a", "--json"]);
+    assert!(json.contains(",\"starts\":2,\"last_end\":\"signal 9 (KILL)\",\"last_end_ms\":"), "{json}");
+    assert!(status(&["b"]).contains("  last start failed: "), "{}", status(&["b"]));
+    assert!(status(&["b", "--json"]).contains(",\"last_failed_start\":"));
+    assert!(ctl(&daemon, &["stop", "pool/b"]).0 == 0);
+    assert!(status(&["pool/b"]).ends_with("undefined  last ended: signal 15 (TERM)\n"), "{}", status(&["pool/b"]));
+    assert_eq!(daemon.stop(), 0);
+}
+
+#[test]
 fn patterns_mean_several_children_and_the_answer_comes_once() {
     let mut daemon = Daemon::start(&[child("a", ""), child("pool", POOL)].concat(), STEADY);
     daemon.wait_ready();

@@ -44,7 +44,7 @@ const TREE: &str = "intensity = 9\nperiod = 60\n[[child]]\nid = 'web'\nstart = '
     [[child]]\nid = 'off'\nstart = 's'\n[child.tree]\n[[child.tree.child]]\nid = 'a'\nstart = 's'\n\
     [[child]]\nid = 'd'\nstart = 's'\n[child.tree]\nstrategy = \"simple_one_for_one\"\n[[child.tree.child]]\nid = 'w'\nstart = 's'\n";
 const COMMANDS: &str = "[s]\ncommand = ['sleep', '1000']\n[bad]\ncommand = ['false']\nrestart_after = '1h'\n\
-    [held]\ncommand = ['false']\nrestart_after = '1ms'\ngive_up_after = 1\n";
+    [held]\ncommand = ['false']\nrestart_after = ['1ms', '1m']\ngive_up_after = 1\n";
 
 #[test]
 fn all_goes_on_as_it_stood() {

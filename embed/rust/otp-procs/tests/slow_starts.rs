@@ -33,7 +33,7 @@ fn a_child_that_has_ended_is_shown_so_and_who_asks_for_it_is_told_what_it_waits_
     let line = text.lines().find(|line| line.trim_start().starts_with("a ")).unwrap();
     assert!(line.contains("ended, waits") && !line.contains("up") && !line.contains("pid"), "{text}");
     let (_, json) = daemon.ctl(&["status", "--json"]);
-    assert!(json.contains("\"id\":\"a\",\"start\":\"a\",\"state\":\"ended\",\"number\":1}"), "{json}");
+    assert!(json.contains("\"id\":\"a\",\"start\":\"a\",\"state\":\"ended\",\"number\":1,\"starts\":1,"), "{json}");
     for word in ["stop", "start"] {
         let mut ctl = ask(&daemon, &[word, "a"]);
         wait_until("it is told", || daemon.read("asked").contains("a waits: slow is starting, for "));
