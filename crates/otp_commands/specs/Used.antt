@@ -32,10 +32,10 @@ use Rattle.otp_commands.specs.Pages.{IsPaged, IsRefused}
 
 -- the script is in another file, of which nothing of the input is read: that can't be read, or the tree was tried by it
 abbrev pub IsTrialOf : List ℕ → Option (Bor (List ℕ)) → ProgramEnd → List ℕ → Devices → Devices → Type 0
-IsTrialOf name None ending file old new = IsTrial name ending file old new
+IsTrialOf name None ending file old new = IsTrial name None ending file old new
 IsTrialOf name (Some script) ending file old new =
     ((ending ≡ FileNotRead) × (new ≡ old)) ⊎ ((ending ≡ OutOfMemory) × (new ≡ old))
-    ⊎ (IsTrial name ending file old new × IsUnread old new)
+    ⊎ (IsTrial name (Some script) ending file old new × IsUnread old new)
 
 -- the tree of a file was compared with that of another of this name, of which it is known what bytes it may hold; or that can't be
 -- read
@@ -100,13 +100,13 @@ IsRead Done ending old new =
 abbrev pub IsRunPaged : Files → Page → List ℕ → Option (Bor (List ℕ)) → List ℕ → ProgramEnd → Written → Written → Type 0
 IsRunPaged known page name script file ending old new =
     ((new ≡ old) × (IsRefused page ending ⊎ ((ending ≡ FileNotRead) ⊎ (ending ≡ OutOfMemory))))
-    ⊎ IsPaged known page name script (IsRunPage name file) (λ ending. IsNotMade name ending file) ending old new
+    ⊎ IsPaged known page name script (IsRunPage name script file) (λ ending. IsNotMade name ending file) ending old new
 
 -- the tree of the file of this name was tried, and the run written in this form
 abbrev pub IsTrialFor : Files → List ℕ → Option (Bor (List ℕ)) → Form → ProgramEnd → List ℕ → Devices → Devices → Type 0
 IsTrialFor known name script form.Text ending file old new = IsTrialOf name script ending file old new
 IsTrialFor known name script form.Object ending file old new =
-    IsUnread old new × IsRead (λ ending. IsRunTold name ending file) ending old.output new.output
+    IsUnread old new × IsRead (λ ending. IsRunTold name script ending file) ending old.output new.output
 IsTrialFor known name script (form.Page page) ending file old new =
     IsUnread old new × IsRunPaged known page name script file ending old.output new.output
 

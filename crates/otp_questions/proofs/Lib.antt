@@ -1,3 +1,4 @@
+pub mod Limited
 pub mod Replayed
 pub mod Tried
 pub mod Compared
