@@ -2,7 +2,7 @@
 
 ghost use Rattle.std.specs.Prelude.{Bool, Option, Some, ◌≡◌, ◌⊎◌, ◌≤◌, false, IfErr, IfOk, OnOk, vec_len};
 ghost use Rattle.otp_sim.specs.Devices.{Readable, devices};
-ghost use Rattle.otp_commands.specs.Used.{IsComparedWith, IsRead, IsReplayOf, IsRunPaged, IsTrialFor, IsTrialOf, IsUsed, Uses, has_remarks};
+ghost use Rattle.otp_commands.specs.Used.{IsComparedWith, IsDrawnIn, IsRead, IsReplayOf, IsRunPaged, IsTrialFor, IsTrialOf, IsUsed, Uses, has_remarks};
 ghost use Rattle.otp_exit.specs.Told.{TellsFirst};
 ghost use Rattle.otp_exit.specs.declared.files.TheConstants.{LARGEST_TREE};
 ghost use Rattle.otp_exit.specs.declared.ending.ProgramEnd.TheVariants.{FileNotRead, OutOfMemory};
@@ -17,7 +17,8 @@ use otp_cli::{Form, LogReading, Page, TrialShows, Usage};
 use otp_costs::{Grain, Pick, Progress, Unseen};
 use otp_exit::{ProgramEnd, TreeFiles, read_any_file, read_script, read_tree_file};
 use otp_questions::{
-    Asking, compare_files, draw_file, limit_file, stop_file, suggest_file, tell_run, try_file,
+    Asking, compare_files, draw_file, limit_file, stop_file, suggest_file, tell_run, tell_tree,
+    try_file,
 };
 use otp_replay::Replaying;
 use otp_sim::{Counted, Input, Output};
@@ -92,9 +93,8 @@ fn use_file<'a, F: TreeFiles, R: Input, W: Output, E: Output>(
         } => try_as(
             alloc, files, name, file, script, writer, shows, form, input, output, errors,
         ),
-        Usage::Draw { page: None } => draw_file(alloc, name, file, output),
-        Usage::Draw { page: Some(page) } => put_tree(alloc, files, name, file, page, output),
-        Usage::Stop => stop_file(alloc, name, file, output),
+        Usage::Draw { form } => draw_as(alloc, files, name, file, form, output),
+        Usage::Stop { is_json } => stop_file(alloc, name, file, is_json, output),
         Usage::Limit { pick, grain, form } => match form {
             Form::Text => limit_seen(alloc, files, name, file, pick, grain, output),
             Form::Object => {
@@ -125,6 +125,25 @@ fn use_file<'a, F: TreeFiles, R: Input, W: Output, E: Output>(
             output,
             errors,
         ),
+    }
+}
+
+/// Writes the tree of a file in this form.
+fn draw_as<'a, F: TreeFiles, W: Output>(
+    alloc: Global,
+    files: &F,
+    name: &'a str,
+    file: &[u8],
+    form: Form<'a>,
+    output: &mut W,
+) -> ProgramEnd<'a>
+    ensures { IsDrawnIn (F.known files.now) form.entry name.now result file.now
+        (W.seen output.old) (W.seen output.new) }
+{
+    match form {
+        Form::Text => draw_file(alloc, name, file, output),
+        Form::Object => tell_tree(alloc, name, file, output),
+        Form::Page(page) => put_tree(alloc, files, name, file, page, output),
     }
 }
 
