@@ -1,4 +1,3 @@
-pub mod Limited
 pub mod Replayed
 pub mod Tried
 pub mod Compared
