@@ -15,10 +15,10 @@ _otp() {
         limits) options="--child --table --each --json --html --help" ;;
         replay) options="--unmatched --timeline --quiet --clock --width --ids --strict --help" ;;
         run) options="--schedulers --turns --counts --tree --why --for --grace --log --json --help" ;;
-        shutdown) options="--help" ;;
+        shutdown) options="--json --help" ;;
         sim) options="--help" ;;
         suggest) options="--child --every --help" ;;
-        tree) options="--html --help" ;;
+        tree) options="--json --html --help" ;;
         try) options="--prompt --timeline --quiet --clock --width --json --html --help" ;;
         help) COMPREPLY=($(compgen -W "check diff import limits replay run shutdown sim suggest tree try script lines otp" -- "$word")); return ;;
     esac

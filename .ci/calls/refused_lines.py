@@ -99,4 +99,4 @@ def calls(make):
     for fault, lines in SCRIPTS.items():
         for line in lines:
             files = {"tree": TREE.encode(), "script": f"{line}\nstop\n".encode()}
-            yield make(f"refused: {line!r}", ["try", "tree", "script"], files, b"", shows, f"line 1: {fault}\n".encode(), 5)
+            yield make(f"refused: {line!r}", ["try", "tree", "script"], files, b"", shows, f"script:1: {fault}\n".encode(), 5)

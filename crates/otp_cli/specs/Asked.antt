@@ -124,8 +124,8 @@ abbrev pub AsksUse : Text → List Row → Usage → Type 0
 AsksUse name rows (usage.Try script writer shows form) =
     (name ≡ codes "try") × ((option_map (λ name. name.now) script ≡ script_in (first_of (codes "SCRIPT") rows))
     × (IsFlagOf rows (codes "prompt") (is_person writer) × (AreTrialShowsOf rows shows × IsFormOf rows form)))
-AsksUse name rows (usage.Draw page) = (name ≡ codes "tree") × (option_map page_name page ≡ first_of (codes "html") rows)
-AsksUse name rows usage.Stop = name ≡ codes "shutdown"
+AsksUse name rows (usage.Draw form) = (name ≡ codes "tree") × IsFormOf rows form
+AsksUse name rows (usage.Stop is_json) = (name ≡ codes "shutdown") × IsFlagOf rows (codes "json") is_json
 AsksUse name rows (usage.Limit pick grain form) =
     (name ≡ codes "limits") × (IsPickOf (first_of (codes "child") rows) (first_of (codes "table") rows) pick
     × (IsFlagOf rows (codes "each") (plays_each grain) × IsFormOf rows form))

@@ -72,7 +72,10 @@ abbrev pub try_app : App
 try_app = with_rule (with_rule tried_app (flag_rule (codes "json"))) (option_rule (codes "html"))
 
 abbrev pub tree_app : App
-tree_app = with_rule (file_app (codes "tree")) (option_rule (codes "html"))
+tree_app = with_rule (with_rule (file_app (codes "tree")) (flag_rule (codes "json"))) (option_rule (codes "html"))
+
+abbrev pub shutdown_app : App
+shutdown_app = with_rule (file_app (codes "shutdown")) (flag_rule (codes "json"))
 
 abbrev pub picked_app : App
 picked_app =
@@ -120,4 +123,4 @@ first_app =
 abbrev pub otp_app : App
 otp_app =
     with_subcommand (with_subcommand (with_subcommand (with_subcommand (with_subcommand (with_subcommand (with_subcommand first_app limits_app.top)
-    (file_app (codes "shutdown")).top) suggest_app.top) diff_app.top) replay_app.top) import_app.top) (file_app (codes "sim")).top
+    shutdown_app.top) suggest_app.top) diff_app.top) replay_app.top) import_app.top) (file_app (codes "sim")).top

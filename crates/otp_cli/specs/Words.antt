@@ -58,6 +58,6 @@ meant_text meant.Otp = codes "there is no such topic; did you mean otp help otp?
 unfoldable pub slip_text : Slip → List ℕ
 slip_text slip.InputTwice = codes "standard input would be read twice; name a file for one of the two, as in otp try - SCRIPT"
 slip_text slip.TwoForms = codes "--json and --html are two forms of one answer; choose one of them"
-slip_text slip.NoObject = codes "this command has no --json; check, try, limits and run have it"
+slip_text slip.NoObject = codes "this command has no --json; check, limits, run, shutdown, tree and try have it"
 slip_text slip.Negative = codes "--schedulers, --turns and --width want a whole number from 1 on"
 slip_text (slip.Meant meant) = meant_text meant

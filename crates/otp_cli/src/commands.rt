@@ -2,7 +2,7 @@
 
 ghost use Rattle.std.specs.Prelude.{◌≡◌, true, false, codes, IfOk};
 ghost use Rattle.clap.specs.Words.{app_of, new_app, rule_of, with_rule, with_subcommand};
-ghost use Rattle.otp_cli.specs.Commands.{bare_app, check_app, checked_app, clock_rule, diff_app, file_app, file_rule, files_rule, flag_rule, import_app, limits_app, needed_rule, number_rule, option_rule, otp_app, picked_app, place_rule, played_app, replay_app, replayed_app, run_app, scheduled_app, shown_app, shown_replay_app, suggest_app, tree_app, tried_app, try_app};
+ghost use Rattle.otp_cli.specs.Commands.{bare_app, check_app, checked_app, clock_rule, diff_app, file_app, file_rule, files_rule, flag_rule, import_app, limits_app, needed_rule, number_rule, option_rule, otp_app, picked_app, place_rule, played_app, replay_app, replayed_app, run_app, scheduled_app, shown_app, shown_replay_app, shutdown_app, suggest_app, tree_app, tried_app, try_app};
 
 use crate::help::*;
 use clap::{Arg, ArgAction};
@@ -214,11 +214,12 @@ fn try_command<'a>(alloc: Global) -> Result<clap::Command<'a>, AllocError>
     with_arg(command, option_arg(alloc, "html", "PAGE", PAGE_HELP))
 }
 
-/// `tree FILE [--html PAGE]`.
+/// `tree FILE [--json] [--html PAGE]`.
 fn tree_command<'a>(alloc: Global) -> Result<clap::Command<'a>, AllocError>
     ensures { IfOk result (λ c. app_of c ≡ tree_app) }
 {
     let command = file_command(alloc, "tree", TREE_ABOUT, TREE_EXAMPLE, FILE_OR_INPUT)?;
+    let command = with_arg(command, flag_arg(alloc, "json", OBJECT_HELP))?;
     with_arg(command, option_arg(alloc, "html", "PAGE", PAGE_HELP))
 }
 
@@ -323,17 +324,18 @@ fn run_command<'a>(alloc: Global) -> Result<clap::Command<'a>, AllocError>
     with_arg(command, flag_arg(alloc, "json", OBJECT_HELP))
 }
 
-/// `shutdown FILE`.
+/// `shutdown FILE [--json]`.
 fn shutdown_command<'a>(alloc: Global) -> Result<clap::Command<'a>, AllocError>
-    ensures { IfOk result (λ c. app_of c ≡ file_app (codes "shutdown")) }
+    ensures { IfOk result (λ c. app_of c ≡ shutdown_app) }
 {
-    file_command(
+    let command = file_command(
         alloc,
         "shutdown",
         SHUTDOWN_ABOUT,
         SHUTDOWN_EXAMPLE,
         FILE_OR_INPUT,
-    )
+    )?;
+    with_arg(command, flag_arg(alloc, "json", OBJECT_HELP))
 }
 
 /// `sim FILE`.

@@ -77,7 +77,7 @@ fn place_of(name: &str) -> Page<'_>
 }
 
 /// Where a page goes, if one is named.
-pub(crate) fn page_of(named: Option<&str>) -> Option<Page<'_>>
+fn page_of(named: Option<&str>) -> Option<Page<'_>>
     ensures { option_map page_name result ≡ option_map (λ name. name.now) named.entry }
 {
     match named {

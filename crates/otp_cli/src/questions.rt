@@ -1,4 +1,4 @@
-//! What the words after `limits`, `suggest` and `diff` ask for.
+//! What the words after `tree`, `limits`, `suggest` and `diff` ask for.
 
 ghost use Rattle.std.specs.Prelude.{◌≡◌, codes, option_map, IfErr, IfOk};
 ghost use Rattle.clap.specs.Words.{found_of, rows_of};
@@ -26,6 +26,15 @@ fn grain_of(is_each: bool) -> Grain
     ensures { plays_each result ≡ is_each }
 {
     if is_each { Grain::Each } else { Grain::Alike }
+}
+
+/// What the words after `tree` ask for.
+pub(crate) fn read_tree<'a>(found: &ArgMatches<'a>) -> Result<Usage<'a>, WordsFault>
+    ensures asked { IfOk result (AsksUse (codes "tree") (rows_of (found_of found.now))) }
+    ensures handed_on { IfErr result IsHandedOn }
+{
+    let form = form_in(found)?;
+    Ok(Usage::Draw { form })
 }
 
 /// What the words after `limits` ask for.

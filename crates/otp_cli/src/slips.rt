@@ -58,7 +58,8 @@ impl Slip {
             Slip::InputTwice =>
                 "standard input would be read twice; name a file for one of the two, as in otp try - SCRIPT",
             Slip::TwoForms => "--json and --html are two forms of one answer; choose one of them",
-            Slip::NoObject => "this command has no --json; check, try, limits and run have it",
+            Slip::NoObject =>
+                "this command has no --json; check, limits, run, shutdown, tree and try have it",
             Slip::Negative => "--schedulers, --turns and --width want a whole number from 1 on",
             Slip::Meant(meant) => meant.text(),
         }
@@ -122,8 +123,8 @@ pub(crate) fn wants_input(usage: &Usage<'_>) -> bool
         } => is_input(script),
         Usage::Compare { other } => is_input(other),
         Usage::Replay { log, reading, .. } => is_input(log) || is_input_named(reading.ids),
-        Usage::Draw { .. } | Usage::Stop | Usage::Limit { .. } | Usage::Suggest { .. } => false,
-        Usage::Import { .. } => false,
+        Usage::Draw { .. } | Usage::Stop { .. } | Usage::Limit { .. } => false,
+        Usage::Suggest { .. } | Usage::Import { .. } => false,
     }
 }
 
@@ -177,9 +178,7 @@ const HELPED: [&str; 12] = [
 ];
 
 /// Those of them that write no object.
-const OF_TEXT: [&str; 7] = [
-    "tree", "shutdown", "suggest", "diff", "replay", "import", "sim",
-];
+const OF_TEXT: [&str; 5] = ["suggest", "diff", "replay", "import", "sim"];
 
 /// The options that want a number.
 const OF_NUMBERS: [&str; 3] = ["--schedulers", "--turns", "--width"];

@@ -8,8 +8,8 @@ ghost use Rattle.otp_cli.specs.Words.{IsOfClap, IsOfSystem, IsHandedOn};
 ghost use Rattle.otp_cli.specs.declared.words.WordsFault.TheVariants.{OutOfMemory};
 
 use crate::commands::otp_command;
-use crate::getters::{is_set, page_of, value_of, values_of};
-use crate::questions::{read_diff, read_limits, read_suggest};
+use crate::getters::{is_set, value_of, values_of};
+use crate::questions::{read_diff, read_limits, read_suggest, read_tree};
 use crate::runs::read_run;
 use crate::slips::{Slip, find_slip, is_input, reads_twice, wants_input};
 use crate::topics::topic;
@@ -56,11 +56,13 @@ pub enum Usage<'a> {
     },
     /// Its tree is drawn.
     Draw {
-        /// As a page, which goes there.
-        page: Option<Page<'a>>,
+        form: Form<'a>,
     },
     /// It is found how long its stop may take.
-    Stop,
+    Stop {
+        /// The answer is an object of JSON.
+        is_json: bool,
+    },
     /// It is found what the failure of its children costs, or of some of them.
     Limit {
         pick: Pick<'a>,
@@ -317,10 +319,10 @@ fn read_command<'a>(
         "run" => return read_run(file, found),
         "try" => read_try(found)?,
         "replay" => read_replay(found)?,
-        "tree" => Usage::Draw {
-            page: page_of(value_of(found, "html")),
+        "tree" => read_tree(found)?,
+        "shutdown" => Usage::Stop {
+            is_json: is_set(found, "json"),
         },
-        "shutdown" => Usage::Stop,
         "import" => Usage::Import {
             of_commands: is_set(found, "commands"),
         },

@@ -14,7 +14,7 @@ use Rattle.otp_costs.specs.declared.pick.Pick.{Pick}
 use Rattle.otp_questions.specs.Limited.{IsLimited}
 use Rattle.otp_questions.specs.Paged.{HasNoLimits, IsLimitsPage, IsNotMade, IsRunPage, IsRunTold, IsTreePage}
 use Rattle.otp_questions.specs.Replayed.{IsReplay}
-use Rattle.otp_questions.specs.Said.{IsDrawn}
+use Rattle.otp_questions.specs.Said.{IsDrawn, IsTreeTold}
 use Rattle.otp_questions.specs.Stopped.{IsStopped}
 use Rattle.otp_questions.specs.Suggested.{IsSuggested}
 use Rattle.otp_questions.specs.Tried.{IsTrial}
@@ -32,10 +32,10 @@ use Rattle.otp_commands.specs.Pages.{IsPaged, IsRefused}
 
 -- the script is in another file, of which nothing of the input is read: that can't be read, or the tree was tried by it
 abbrev pub IsTrialOf : List ℕ → Option (Bor (List ℕ)) → ProgramEnd → List ℕ → Devices → Devices → Type 0
-IsTrialOf name None ending file old new = IsTrial name ending file old new
+IsTrialOf name None ending file old new = IsTrial name None ending file old new
 IsTrialOf name (Some script) ending file old new =
     ((ending ≡ FileNotRead) × (new ≡ old)) ⊎ ((ending ≡ OutOfMemory) × (new ≡ old))
-    ⊎ (IsTrial name ending file old new × IsUnread old new)
+    ⊎ (IsTrial name (Some script) ending file old new × IsUnread old new)
 
 -- the tree of a file was compared with that of another of this name, of which it is known what bytes it may hold; or that can't be
 -- read
@@ -100,13 +100,13 @@ IsRead Done ending old new =
 abbrev pub IsRunPaged : Files → Page → List ℕ → Option (Bor (List ℕ)) → List ℕ → ProgramEnd → Written → Written → Type 0
 IsRunPaged known page name script file ending old new =
     ((new ≡ old) × (IsRefused page ending ⊎ ((ending ≡ FileNotRead) ⊎ (ending ≡ OutOfMemory))))
-    ⊎ IsPaged known page name script (IsRunPage name file) (λ ending. IsNotMade name ending file) ending old new
+    ⊎ IsPaged known page name script (IsRunPage name script file) (λ ending. IsNotMade name ending file) ending old new
 
 -- the tree of the file of this name was tried, and the run written in this form
 abbrev pub IsTrialFor : Files → List ℕ → Option (Bor (List ℕ)) → Form → ProgramEnd → List ℕ → Devices → Devices → Type 0
 IsTrialFor known name script form.Text ending file old new = IsTrialOf name script ending file old new
 IsTrialFor known name script form.Object ending file old new =
-    IsUnread old new × IsRead (λ ending. IsRunTold name ending file) ending old.output new.output
+    IsUnread old new × IsRead (λ ending. IsRunTold name script ending file) ending old.output new.output
 IsTrialFor known name script (form.Page page) ending file old new =
     IsUnread old new × IsRunPaged known page name script file ending old.output new.output
 
@@ -118,11 +118,12 @@ IsLimitedAs known (form.Page page) grain pick name ending file old new =
     IsUnread old new
     × IsPaged known page name None (IsLimitsPage grain pick name file) (λ ending. HasNoLimits grain pick name ending file) ending old.output new.output
 
--- a tree was drawn as text, or as a page
-abbrev pub IsDrawnAs : Files → Option Page → List ℕ → ProgramEnd → List ℕ → Devices → Devices → Type 0
-IsDrawnAs known None name ending file old new = IsUnread old new × IsDrawn name ending file old.output new.output
-IsDrawnAs known (Some page) name ending file old new =
-    IsUnread old new × IsPaged known page name None (IsTreePage name file) (λ ending. IsNotMade name ending file) ending old.output new.output
+-- a tree was drawn as text, or written as an object or as a page
+abbrev pub IsDrawnIn : Files → Form → List ℕ → ProgramEnd → List ℕ → Written → Written → Type 0
+IsDrawnIn known form.Text name ending file old new = IsDrawn name ending file old new
+IsDrawnIn known form.Object name ending file old new = IsTreeTold name ending file old new
+IsDrawnIn known (form.Page page) name ending file old new =
+    IsPaged known page name None (IsTreePage name file) (λ ending. IsNotMade name ending file) ending old new
 
 -- remarks on what was read may be told, though all went well
 abbrev pub has_remarks : Usage → Bool
@@ -132,8 +133,8 @@ has_remarks _ = false
 -- the tree file of this name was used so
 abbrev pub IsUsed : Files → List ℕ → Usage → ProgramEnd → List ℕ → Devices → Devices → Type 0
 IsUsed known name (usage.Try script writer shows form) ending file old new = IsTrialFor known name script form ending file old new
-IsUsed known name usage.Stop ending file old new = IsUnread old new × IsStopped name ending file old.output new.output
-IsUsed known name (usage.Draw page) ending file old new = IsDrawnAs known page name ending file old new
+IsUsed known name (usage.Stop is_json) ending file old new = IsUnread old new × IsStopped is_json name ending file old.output new.output
+IsUsed known name (usage.Draw form) ending file old new = IsUnread old new × IsDrawnIn known form name ending file old.output new.output
 IsUsed known name (usage.Limit pick grain form) ending file old new = IsLimitedAs known form grain pick name ending file old new
 IsUsed known name (usage.Suggest child every) ending file old new = IsUnread old new × IsSuggested child every name ending file old.output new.output
 IsUsed known name (usage.Compare other) ending file old new = IsUnread old new × IsComparedWith (known.holds other.now) name other.now ending file old.output new.output

@@ -5,7 +5,7 @@ ghost use Rattle.otp_commands.specs.Used.{IsReplayBehind, IsReplayBy, IsReplayOf
 ghost use Rattle.otp_exit.specs.Told.{TellsFirst};
 
 use otp_cli::LogReading;
-use otp_exit::{ProgramEnd, TreeFiles, read_log, read_tree_file};
+use otp_exit::{ProgramEnd, TreeFiles, read_any_file, read_log};
 use otp_file::{TreeSpec, read_tree};
 use otp_logs::{LogWords, Translation, translate_log};
 use otp_questions::{Log, replay_file};
@@ -59,7 +59,7 @@ fn replay_read<'a, F: TreeFiles, W: Output, E: Output>(
     let strict = reading.is_strict;
     match reading.ids {
         None => replay_text(alloc, name, file, log, text, b"", strict, replaying, output),
-        Some(ids) => match read_tree_file(files, ids, errors) {
+        Some(ids) => match read_any_file(files, ids, errors) {
             Ok(ids) => replay_text(
                 alloc, name, file, log, text, &ids, strict, replaying, output,
             ),

@@ -125,17 +125,17 @@ pub(crate) fn put_run<'a, F: TreeFiles, W: Output>(
     files: &F,
     name: &'a str,
     file: &[u8],
-    script: Option<&str>,
+    script: Option<&'a str>,
     lines: &[u8],
     clock: Clock,
     page: Page<'a>,
     output: &mut W,
 ) -> ProgramEnd<'a>
     requires may { IsAllowed (F.known files.now) page name.now script }
-    ensures { IsPaged (F.known files.now) page.entry name.now script.entry (IsRunPage name.now file.now) (λ ending. IsNotMade name.now ending file.now)
+    ensures { IsPaged (F.known files.now) page.entry name.now script.entry (IsRunPage name.now script.entry file.now) (λ ending. IsNotMade name.now ending file.now)
         result (W.seen output.old) (W.seen output.new) }
 {
-    let (html, made) = match page_of_run(alloc, name, file, lines, clock) {
+    let (html, made) = match page_of_run(alloc, name, file, script, lines, clock) {
         Ok(run) => run,
         Err(ending) => return ending,
     };

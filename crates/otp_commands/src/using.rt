@@ -1,9 +1,11 @@
 //! What one tree file is used for: how a question about it, and the other files that it needs, come to an end of the program.
 
-ghost use Rattle.std.specs.Prelude.{Option, ◌≤◌, false};
+ghost use Rattle.std.specs.Prelude.{Bool, Option, Some, ◌≡◌, ◌⊎◌, ◌≤◌, false, IfErr, IfOk, OnOk, vec_len};
 ghost use Rattle.otp_sim.specs.Devices.{Readable, devices};
-ghost use Rattle.otp_commands.specs.Used.{IsComparedWith, IsRead, IsReplayOf, IsRunPaged, IsTrialFor, IsTrialOf, IsUsed, Uses, has_remarks};
+ghost use Rattle.otp_commands.specs.Used.{IsComparedWith, IsDrawnIn, IsRead, IsReplayOf, IsRunPaged, IsTrialFor, IsTrialOf, IsUsed, Uses, has_remarks};
 ghost use Rattle.otp_exit.specs.Told.{TellsFirst};
+ghost use Rattle.otp_exit.specs.declared.files.TheConstants.{LARGEST_TREE};
+ghost use Rattle.otp_exit.specs.declared.ending.ProgramEnd.TheVariants.{FileNotRead, OutOfMemory};
 ghost use Rattle.otp_questions.specs.Limited.{IsLimited};
 ghost use Rattle.otp_questions.specs.Paged.{IsRunTold};
 ghost use Rattle.otp_questions.specs.Tried.{IsTrial};
@@ -13,9 +15,10 @@ use crate::logs::replay_log;
 use crate::pages::{ask, put_limits, put_run, put_tree};
 use otp_cli::{Form, LogReading, Page, TrialShows, Usage};
 use otp_costs::{Grain, Pick, Progress, Unseen};
-use otp_exit::{ProgramEnd, TreeFiles, read_script, read_tree_file};
+use otp_exit::{ProgramEnd, TreeFiles, read_any_file, read_script, read_tree_file};
 use otp_questions::{
-    Asking, compare_files, draw_file, limit_file, stop_file, suggest_file, tell_run, try_file,
+    Asking, compare_files, draw_file, limit_file, stop_file, suggest_file, tell_run, tell_tree,
+    try_file,
 };
 use otp_replay::Replaying;
 use otp_sim::{Counted, Input, Output};
@@ -38,9 +41,29 @@ pub(crate) fn use_named<'a, F: TreeFiles, R: Input, W: Output, E: Output>(
     ensures first { TellsFirst (has_remarks usage.entry) result (E.seen errors.old) (E.seen errors.new) }
     ensures kept { (E.seen errors.old).failures ≤ (E.seen errors.new).failures }
 {
-    match read_tree_file(files, name, errors) {
+    match read_used(files, name, &usage, errors) {
         Ok(file) => use_file(alloc, files, name, &file, usage, input, output, errors),
         Err(ending) => ending,
+    }
+}
+
+/// The bytes of the file of this name that is used so: of a tree file, or of what is imported.
+fn read_used<'a, F: TreeFiles, E: Output>(
+    files: &F,
+    name: &'a str,
+    usage: &Usage<'_>,
+    errors: &mut E,
+) -> Result<Vec<u8>, ProgramEnd<'a>>
+    ensures holds { IfOk result (λ file. (F.known files.now).holds name.now file.items) }
+    ensures small { IfOk result (λ file. vec_len file ≤ LARGEST_TREE) }
+    ensures silent { OnOk result (errors.new ≡ errors.old) }
+    ensures ending { IfErr result (λ ending. (ending ≡ FileNotRead) ⊎ (ending ≡ OutOfMemory)) }
+    ensures first { IfErr result (λ ending. (drawn : Bool) → TellsFirst drawn ending (E.seen errors.old) (E.seen errors.new)) }
+    ensures kept { (E.seen errors.old).failures ≤ (E.seen errors.new).failures }
+{
+    match usage {
+        Usage::Import { .. } => read_any_file(files, name, errors),
+        _ => read_tree_file(files, name, errors),
     }
 }
 
@@ -70,9 +93,8 @@ fn use_file<'a, F: TreeFiles, R: Input, W: Output, E: Output>(
         } => try_as(
             alloc, files, name, file, script, writer, shows, form, input, output, errors,
         ),
-        Usage::Draw { page: None } => draw_file(alloc, name, file, output),
-        Usage::Draw { page: Some(page) } => put_tree(alloc, files, name, file, page, output),
-        Usage::Stop => stop_file(alloc, name, file, output),
+        Usage::Draw { form } => draw_as(alloc, files, name, file, form, output),
+        Usage::Stop { is_json } => stop_file(alloc, name, file, is_json, output),
         Usage::Limit { pick, grain, form } => match form {
             Form::Text => limit_seen(alloc, files, name, file, pick, grain, output),
             Form::Object => {
@@ -103,6 +125,25 @@ fn use_file<'a, F: TreeFiles, R: Input, W: Output, E: Output>(
             output,
             errors,
         ),
+    }
+}
+
+/// Writes the tree of a file in this form.
+fn draw_as<'a, F: TreeFiles, W: Output>(
+    alloc: Global,
+    files: &F,
+    name: &'a str,
+    file: &[u8],
+    form: Form<'a>,
+    output: &mut W,
+) -> ProgramEnd<'a>
+    ensures { IsDrawnIn (F.known files.now) form.entry name.now result file.now
+        (W.seen output.old) (W.seen output.new) }
+{
+    match form {
+        Form::Text => draw_file(alloc, name, file, output),
+        Form::Object => tell_tree(alloc, name, file, output),
+        Form::Page(page) => put_tree(alloc, files, name, file, page, output),
     }
 }
 
@@ -199,13 +240,13 @@ fn tell_whole<'a, F: TreeFiles, W: Output, E: Output>(
     output: &mut W,
     errors: &mut E,
 ) -> ProgramEnd<'a>
-    ensures done { IsRead (λ ending. IsRunTold name.now ending file.now)
+    ensures done { IsRead (λ ending. IsRunTold name.now script.entry ending file.now)
         result (W.seen output.old) (W.seen output.new) }
     ensures first { TellsFirst false result (E.seen errors.old) (E.seen errors.new) }
     ensures kept { (E.seen errors.old).failures ≤ (E.seen errors.new).failures }
 {
     match read_script(files, script.unwrap_or("-"), errors) {
-        Ok(lines) => tell_run(alloc, name, file, &lines, clock, output),
+        Ok(lines) => tell_run(alloc, name, file, script, &lines, clock, output),
         Err(ending) => ending,
     }
 }
@@ -264,7 +305,7 @@ fn try_by<'a, F: TreeFiles, R: Input, W: Output, E: Output>(
             shows: seen,
             clock: shows.clock,
         };
-        return try_file(alloc, name, file, playing, input, output);
+        return try_file(alloc, name, file, None, playing, input, output);
     };
     match read_script(files, script, errors) {
         Ok(lines) => {
@@ -273,7 +314,7 @@ fn try_by<'a, F: TreeFiles, R: Input, W: Output, E: Output>(
                 shows: seen,
                 clock: shows.clock,
             };
-            try_lines(alloc, name, file, playing, &lines, output)
+            try_lines(alloc, name, file, script, playing, &lines, output)
         }
         Err(ending) => ending,
     }
@@ -302,20 +343,21 @@ fn shows_of<F: TreeFiles>(files: &F, shows: TrialShows) -> Shows {
     }
 }
 
-/// Tries the tree of a file by these lines.
+/// Tries the tree of a file by these lines, those of the script of this name.
 fn try_lines<'a, W: Output>(
     alloc: Global,
     name: &'a str,
     file: &[u8],
+    script: &'a str,
     playing: Playing,
     lines: &[u8],
     output: &mut W,
 ) -> ProgramEnd<'a>
-    ensures { (unread : Readable) → IsTrial name.now result file.now
+    ensures { (unread : Readable) → IsTrial name.now (Some script.entry) result file.now
         (devices unread (W.seen output.old)) (devices unread (W.seen output.new)) }
 {
-    let mut script = Counted::new(lines);
-    try_file(alloc, name, file, playing, &mut script, output)
+    let mut read = Counted::new(lines);
+    try_file(alloc, name, file, Some(script), playing, &mut read, output)
 }
 
 /// Says what differs between the tree of a file and that of another.

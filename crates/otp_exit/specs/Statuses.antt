@@ -1,5 +1,5 @@
 -- The exit statuses, and what is told of them (own).
-use Rattle.std.specs.Prelude.{◌≡◌, ℕ, List, [], ◌++◌, codes, decimal}
+use Rattle.std.specs.Prelude.{◌≡◌, ℕ, List, [], ◌++◌, Option, None, Some, codes, decimal}
 use Rattle.std.specs.Borrow.{Bor}
 use Rattle.std.specs.declared.io.ErrorKind.{ErrorKind}
 use Rattle.std.specs.declared.io.ErrorKind.TheVariants as system
@@ -15,7 +15,7 @@ use Rattle.otp_trial.specs.Taken.{taken_text}
 use Rattle.otp_exit.specs.declared.ending.Unwritten.{Unwritten}
 use Rattle.otp_exit.specs.declared.ending.Unwritten.TheVariants.{Closed, Since}
 use Rattle.otp_exit.specs.declared.ending.ProgramEnd.{ProgramEnd}
-use Rattle.otp_exit.specs.declared.ending.ProgramEnd.TheVariants.{Done, WordsRefused, NoCommand, WordNotText, FileAsCommand, TreeNotRead, FileNotRead, TreeRefused, NoTree, UnknownStart, NotFound, WrongBody, CloseMismatch, CloseMissing, FaultsFound, LineRefused, ScriptRefused, ScriptMissed, HistoryFull, InputFailed, OutputFailed, OutOfMemory, UnknownClock, NotATime, NeedsFor, CountsTurns, ExpectationFailed, NothingPlayed, NotFinished, NamesSupervisor, NotAGap, LogRefused, PageNotWritten, PageRefused, Refused, RunsNoTrees}
+use Rattle.otp_exit.specs.declared.ending.ProgramEnd.TheVariants.{Done, WordsRefused, NoCommand, WordNotText, FileAsCommand, TreeNotRead, FileNotRead, TreeRefused, NoTree, UnknownStart, NotFound, NoSupervisor, WrongBody, CloseMismatch, CloseMissing, FaultsFound, LineRefused, ScriptRefused, ScriptMissed, HistoryFull, InputFailed, OutputFailed, OutOfMemory, UnknownClock, NotATime, NeedsFor, CountsTurns, ExpectationFailed, NothingPlayed, NotFinished, NamesSupervisor, NotAGap, LogRefused, PageNotWritten, PageRefused, Refused, RunsNoTrees}
 
 -- 0: done. 1: the tree, or a file. 2: the words. 3: the lines of the input. 4: the machine. 5: a line of a script. 6: what one
 -- expects. 7: a run that ran out of turns, or of time to stop. 8: a script or a log of which nothing was played
@@ -38,6 +38,7 @@ status_of (NoTree _ _) = 1
 status_of (UnknownStart _) = 1
 status_of WrongBody = 1
 status_of (NotFound _) = 2
+status_of (NoSupervisor _) = 2
 status_of (NamesSupervisor _) = 2
 status_of (NotAGap _ _) = 2
 status_of (LogRefused _ _) = 2
@@ -46,9 +47,9 @@ status_of CloseMissing = 4
 status_of NotFinished = 7
 status_of FaultsFound = 1
 status_of (LineRefused _) = 3
-status_of (ScriptRefused _ _) = 5
-status_of (ScriptMissed _ _) = 5
-status_of (ExpectationFailed _) = 6
+status_of (ScriptRefused _ _ _) = 5
+status_of (ScriptMissed _ _ _) = 5
+status_of (ExpectationFailed _ _) = 6
 status_of NothingPlayed = 8
 status_of HistoryFull = 3
 status_of InputFailed = 3
@@ -57,9 +58,14 @@ status_of (PageNotWritten _ _) = 4
 status_of (PageRefused _ _) = 2
 status_of OutOfMemory = 4
 
--- a line of a script, and what is wrong with it
-abbrev pub line_text : ℕ → List ℕ → List ℕ
-line_text line why = codes "line " ++ decimal line ++ codes ": " ++ why ++ codes "\n"
+-- the name of a script; that of standard input is `-`
+abbrev pub script_name : Option (Bor (List ℕ)) → List ℕ
+script_name None = codes "-"
+script_name (Some script) = script.now
+
+-- a line of a script, as editors read it, and what is wrong with it
+abbrev pub line_text : Option (Bor (List ℕ)) → ℕ → List ℕ → List ℕ
+line_text script line why = script_name script ++ (codes ":" ++ decimal line ++ codes ": ") ++ why ++ codes "\n"
 
 -- a file that can't be read, and why
 abbrev pub not_read_text : List ℕ → List ℕ → List ℕ
@@ -83,11 +89,15 @@ no_gap_text word why = (codes "error: " ++ word ++ codes " ") ++ why ++ codes "\
 
 -- the line of the log of this name that is refused, and why
 abbrev pub log_text : List ℕ → LogFault → List ℕ
-log_text name why = (codes "error: " ++ name ++ codes ": ") ++ log.fault_text why
+log_text name why = name ++ codes ":" ++ decimal (log.fault_line why) ++ log.reason_text why
 
 -- what is said of a file, and why
 abbrev pub said_text : List ℕ → List ℕ → List ℕ → List ℕ
 said_text name said why = (codes "error: " ++ name ++ said) ++ why ++ codes "\n"
+
+-- a name that no supervisor with children has
+abbrev pub no_supervisor_text : List ℕ → List ℕ
+no_supervisor_text name = said_text name (codes " is no supervisor with children") (codes "; otp tree FILE shows which there are")
 
 -- a page that can't be written, and why
 abbrev pub not_written_text : List ℕ → List ℕ → List ℕ
@@ -121,6 +131,7 @@ sentence_of (TreeRefused why) = codes "tree refused: E" ++ decimal (code_of why)
 sentence_of (NoTree why name) = no_tree_text (code_of why) name.now
 sentence_of (UnknownStart name) = codes "unknown start " ++ name_bytes name ++ codes "\n"
 sentence_of (NotFound name) = not_found_text name.now
+sentence_of (NoSupervisor name) = no_supervisor_text name.now
 sentence_of (NamesSupervisor name) = names_supervisor_text name.now
 sentence_of (NotAGap word why) = no_gap_text word.now (gap.fault_text why)
 sentence_of (LogRefused name why) = log_text name.now why
@@ -130,9 +141,9 @@ sentence_of CloseMissing = codes "close refused: E20\n"
 sentence_of NotFinished = []
 sentence_of FaultsFound = []
 sentence_of (LineRefused line) = codes "line " ++ decimal line ++ codes " refused\n"
-sentence_of (ScriptRefused line why) = line_text line (fault_text why)
-sentence_of (ScriptMissed line why) = line_text line (taken_text why)
-sentence_of (ExpectationFailed line) = line_text line (codes "it is not so as the script expects")
+sentence_of (ScriptRefused script line why) = line_text script line (fault_text why)
+sentence_of (ScriptMissed script line why) = line_text script line (taken_text why)
+sentence_of (ExpectationFailed script line) = line_text script line (codes "it is not so as the script expects")
 sentence_of NothingPlayed = codes "error: nothing was played: no line says what happens\n"
 sentence_of HistoryFull = codes "history full\n"
 sentence_of InputFailed = codes "input not read\n"

@@ -4,7 +4,7 @@ ghost use Rattle.std.specs.Prelude.{Bool, ◌≡◌, ◌⊎◌, ◌≤◌, ◌<�
 ghost use Rattle.std.specs.IoError.{error_kind};
 ghost use Rattle.std.specs.Io.KnownBytes.{Appends};
 ghost use Rattle.otp_exit.specs.Told.{IsTold, TellsFirst, goes_on, worse};
-ghost use Rattle.otp_exit.specs.Statuses.{IsOfFile, ending_of_no_tree, ending_of_tree, line_text, log_text, names_supervisor_text, no_gap_text, no_tree_text, not_found_text, not_replaced_text, not_written_text, refused_text, said_text, sentence_of, status_of, sentence_since};
+ghost use Rattle.otp_exit.specs.Statuses.{IsOfFile, ending_of_no_tree, ending_of_tree, line_text, log_text, names_supervisor_text, no_gap_text, no_supervisor_text, no_tree_text, not_found_text, not_replaced_text, not_written_text, refused_text, said_text, script_name, sentence_of, status_of, sentence_since};
 ghost use Rattle.otp_exit.specs.declared.ending.ProgramEnd.TheVariants.{OutOfMemory, TreeNotRead};
 
 use crate::files::{write_three, write_two};
@@ -54,8 +54,10 @@ pub enum ProgramEnd<'a> {
     NoTree(TreeFault, &'a str),
     /// The start of a child that has no tree is no word of a worked job.
     UnknownStart(Name),
-    /// No child or supervisor of the tree has this name, or the supervisor has no children.
+    /// No child of the tree has this name.
     NotFound(&'a str),
+    /// No supervisor of the tree has this name, or it has no children.
+    NoSupervisor(&'a str),
     /// The child with this name is a supervisor, where a worker's name is wanted.
     NamesSupervisor(&'a str),
     /// This word says no time between crashes.
@@ -75,12 +77,12 @@ pub enum ProgramEnd<'a> {
     FaultsFound,
     /// The line with this number, from 1, has no form that is read.
     LineRefused(u64),
-    /// The line of a script with this number can't be read.
-    ScriptRefused(u64, ScriptFault),
+    /// The line with this number can't be read, of the script of this name, if it has one.
+    ScriptRefused(Option<&'a str>, u64, ScriptFault),
     /// The line of a script with this number could do nothing.
-    ScriptMissed(u64, ActionEnd),
+    ScriptMissed(Option<&'a str>, u64, ActionEnd),
     /// A script was played, and what the line with this number expected was not so, the first of such lines.
-    ExpectationFailed(u64),
+    ExpectationFailed(Option<&'a str>, u64),
     /// No line of a script or a log was played.
     NothingPlayed,
     /// There were 2^62 events, as many as a supervisor has in its life.
@@ -109,14 +111,15 @@ impl<'a> ProgramEnd<'a> {
             ProgramEnd::FileAsCommand | ProgramEnd::NotFound(_) | ProgramEnd::UnknownClock => 2,
             ProgramEnd::RunsNoTrees | ProgramEnd::Refused(_) | ProgramEnd::PageRefused(..) => 2,
             ProgramEnd::NotATime | ProgramEnd::NeedsFor | ProgramEnd::CountsTurns => 2,
-            ProgramEnd::NamesSupervisor(_) | ProgramEnd::NotAGap(..) => 2,
+            ProgramEnd::NamesSupervisor(_) | ProgramEnd::NoSupervisor(_) => 2,
+            ProgramEnd::NotAGap(..) => 2,
             ProgramEnd::LogRefused(..) => 2,
             ProgramEnd::LineRefused(_) | ProgramEnd::HistoryFull | ProgramEnd::InputFailed => 3,
             ProgramEnd::OutputFailed | ProgramEnd::OutOfMemory => 4,
             ProgramEnd::CloseMismatch | ProgramEnd::CloseMissing => 4,
             ProgramEnd::PageNotWritten(..) => 4,
             ProgramEnd::ScriptRefused(..) | ProgramEnd::ScriptMissed(..) => 5,
-            ProgramEnd::ExpectationFailed(_) => 6,
+            ProgramEnd::ExpectationFailed(..) => 6,
             ProgramEnd::NotFinished => 7,
             ProgramEnd::NothingPlayed => 8,
         }
@@ -277,6 +280,7 @@ fn write_sentence<E: Output>(errors: &mut E, ending: ProgramEnd<'_>) -> Result<(
             write_three(errors, b"unknown start ", name.as_bytes(), b"\n")
         }
         ProgramEnd::NotFound(name) => write_not_found(errors, name),
+        ProgramEnd::NoSupervisor(name) => write_no_supervisor(errors, name),
         ProgramEnd::NamesSupervisor(name) => write_names_supervisor(errors, name),
         ProgramEnd::NotAGap(word, fault) => write_no_gap(errors, word, fault.text()),
         ProgramEnd::LogRefused(name, fault) => write_log_fault(errors, name, fault),
@@ -286,10 +290,14 @@ fn write_sentence<E: Output>(errors: &mut E, ending: ProgramEnd<'_>) -> Result<(
         ProgramEnd::CloseMissing => write_all(errors, b"close refused: E20\n"),
         ProgramEnd::WrongBody => write_all(errors, b"tree refused: E19\n"),
         ProgramEnd::LineRefused(line) => write_numbered(errors, b"line ", line, b" refused\n"),
-        ProgramEnd::ScriptRefused(line, fault) => write_line_fault(errors, line, fault.text()),
-        ProgramEnd::ScriptMissed(line, taken) => write_line_fault(errors, line, taken.text()),
-        ProgramEnd::ExpectationFailed(line) => {
-            write_line_fault(errors, line, "it is not so as the script expects")
+        ProgramEnd::ScriptRefused(script, line, fault) => {
+            write_line_fault(errors, script, line, fault.text())
+        }
+        ProgramEnd::ScriptMissed(script, line, taken) => {
+            write_line_fault(errors, script, line, taken.text())
+        }
+        ProgramEnd::ExpectationFailed(script, line) => {
+            write_line_fault(errors, script, line, "it is not so as the script expects")
         }
         ProgramEnd::NothingPlayed => write_all(
             errors,
@@ -332,6 +340,20 @@ fn write_not_found<E: Output>(errors: &mut E, name: &str) -> Result<(), Failed>
     )
 }
 
+/// Writes that no supervisor with children has this name.
+fn write_no_supervisor<E: Output>(errors: &mut E, name: &str) -> Result<(), Failed>
+    ensures ok { OnOk result (Appends (E.seen errors.old).bytes (E.seen errors.new).bytes (no_supervisor_text name.now)) }
+    ensures kept { (E.seen errors.old).failures ≤ (E.seen errors.new).failures }
+    ensures failed { OnErr result ((E.seen errors.old).failures < (E.seen errors.new).failures) }
+{
+    write_said_of(
+        errors,
+        name.as_bytes(),
+        b" is no supervisor with children",
+        b"; otp tree FILE shows which there are",
+    )
+}
+
 /// Writes that the child with this name is a supervisor, and whose name is wanted.
 #[tactic(auto, unfolding(otp_suggest::specs::Refused::is_supervisor_text))]
 fn write_names_supervisor<E: Output>(errors: &mut E, name: &str) -> Result<(), Failed>
@@ -359,8 +381,8 @@ fn write_log_fault<E: Output>(errors: &mut E, name: &str, fault: LogFault) -> Re
     ensures kept { (E.seen errors.old).failures ≤ (E.seen errors.new).failures }
     ensures failed { OnErr result ((E.seen errors.old).failures < (E.seen errors.new).failures) }
 {
-    write_three(errors, b"error: ", name.as_bytes(), b": ")?;
-    write_numbered(errors, b"line ", fault.line(), fault.reason().as_bytes())
+    write_all(errors, name.as_bytes())?;
+    write_numbered(errors, b":", fault.line(), fault.reason().as_bytes())
 }
 
 /// Writes what is said of a file, and why.
@@ -415,15 +437,30 @@ fn write_refused<E: Output>(errors: &mut E, why: &str) -> Result<(), Failed>
     write_three(errors, b"error: ", why.as_bytes(), b"\n")
 }
 
+/// The name of a script; that of standard input is `-`.
+fn name_of(script: Option<&str>) -> &str
+    ensures { result.now ≡ script_name script.entry }
+{
+    match script {
+        None => "-",
+        Some(name) => name,
+    }
+}
+
 /// Writes what is wrong with a line of a script.
-fn write_line_fault<E: Output>(errors: &mut E, line: u64, why: &str) -> Result<(), Failed>
-    ensures ok { OnOk result (Appends (E.seen errors.old).bytes (E.seen errors.new).bytes (line_text line why.now)) }
+fn write_line_fault<E: Output>(
+    errors: &mut E,
+    script: Option<&str>,
+    line: u64,
+    why: &str,
+) -> Result<(), Failed>
+    ensures ok { OnOk result (Appends (E.seen errors.old).bytes (E.seen errors.new).bytes (line_text script.entry line why.now)) }
     ensures kept { (E.seen errors.old).failures ≤ (E.seen errors.new).failures }
     ensures failed { OnErr result ((E.seen errors.old).failures < (E.seen errors.new).failures) }
 {
-    write_numbered(errors, b"line ", line, b": ")?;
-    write_all(errors, why.as_bytes())?;
-    write_all(errors, b"\n")
+    write_all(errors, name_of(script).as_bytes())?;
+    write_numbered(errors, b":", line, b": ")?;
+    write_two(errors, why.as_bytes(), b"\n")
 }
 
 /// Writes a number and a name between texts.

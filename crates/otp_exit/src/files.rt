@@ -9,6 +9,7 @@ ghost use Rattle.otp_exit.specs.declared.files.TheConstants.{LARGEST_FILE, LARGE
 ghost use Rattle.otp_exit.specs.declared.ending.ProgramEnd.TheVariants.{FileNotRead, OutOfMemory, TreeNotRead};
 
 use crate::ending::{ProgramEnd, Unwritten};
+use crate::like::{is_script, is_tree};
 use otp_sim::{Failed, Output, write_all};
 use std::io;
 use std::io::ErrorKind;
@@ -29,6 +30,12 @@ const TOO_LARGE_A_SCRIPT: &str = "it has more than 1048576 bytes, too many for a
 /// Why a log that is larger is not replayed.
 const TOO_LARGE_A_LOG: &str =
     "it has more than 268435456 bytes, too many for a log; keep the lines of children alone";
+
+/// Why a tree file is no script.
+const IS_A_TREE: &str = "it is a tree file where a script is wanted; otp try FILE SCRIPT";
+
+/// Why a script is no tree file.
+const IS_A_SCRIPT: &str = "it is a script where a tree file is wanted; otp try FILE SCRIPT";
 
 /// Why more of standard input is not taken whole.
 const TOO_LONG: &str = "it has more than 1048576 bytes, too many for standard input; name a file";
@@ -96,7 +103,7 @@ fn read_tree_named<F: TreeFiles>(files: &F, name: &str) -> io::Result<Vec<u8>>
     }
 }
 
-/// The bytes of a script, of which there are at most [`LARGEST_TREE`]; `-` is standard input.
+/// The bytes of a script, of which there are at most [`LARGEST_TREE`]; `-` is standard input. A tree file is none.
 ///
 /// # Errors
 ///
@@ -113,7 +120,15 @@ pub fn read_script<'a, F: TreeFiles, E: Output>(
     ensures first { IfErr result (λ ending. (drawn : Bool) → TellsFirst drawn ending (E.seen errors.old) (E.seen errors.new)) }
     ensures kept { (E.seen errors.old).failures ≤ (E.seen errors.new).failures }
 {
-    read_told(files, name, TOO_LARGE_A_SCRIPT, errors)
+    let lines = match read_told(files, name, TOO_LARGE_A_SCRIPT, errors) {
+        Ok(lines) => lines,
+        Err(ending) => return Err(ending),
+    };
+    if is_tree(&lines) {
+        drop(lines);
+        return Err(tell_not_read(errors, name, IS_A_TREE));
+    }
+    Ok(lines)
 }
 
 /// The bytes of a file, of which there are at most [`LARGEST_TREE`]. Else which file can't be read is told, and why; where it is
@@ -138,11 +153,31 @@ fn read_told<'a, F: TreeFiles, E: Output>(
     }
 }
 
-/// The bytes of a tree file, of which there are at most [`LARGEST_TREE`].
+/// The bytes of a file, whatever it is, of which there are at most [`LARGEST_TREE`].
 ///
 /// # Errors
 ///
-/// [`ProgramEnd::FileNotRead`], once it is told on `errors` which file can't be read and why, or that it is larger; and
+/// Those of [`read_tree_file`].
+pub fn read_any_file<'a, F: TreeFiles, E: Output>(
+    files: &F,
+    name: &'a str,
+    errors: &mut E,
+) -> Result<Vec<u8>, ProgramEnd<'a>>
+    ensures holds { IfOk result (λ file. (F.known files.now).holds name.now file.items) }
+    ensures small { IfOk result (λ file. vec_len file ≤ LARGEST_TREE) }
+    ensures silent { OnOk result (errors.new ≡ errors.old) }
+    ensures ending { IfErr result (λ ending. (ending ≡ FileNotRead) ⊎ (ending ≡ OutOfMemory)) }
+    ensures first { IfErr result (λ ending. (drawn : Bool) → TellsFirst drawn ending (E.seen errors.old) (E.seen errors.new)) }
+    ensures kept { (E.seen errors.old).failures ≤ (E.seen errors.new).failures }
+{
+    read_told(files, name, TOO_LARGE, errors)
+}
+
+/// The bytes of a tree file, of which there are at most [`LARGEST_TREE`]. A script is none.
+///
+/// # Errors
+///
+/// [`ProgramEnd::FileNotRead`], once it is told on `errors` which file can't be read and why, or that it is larger or another; and
 /// [`ProgramEnd::OutOfMemory`].
 pub fn read_tree_file<'a, F: TreeFiles, E: Output>(
     files: &F,
@@ -156,7 +191,15 @@ pub fn read_tree_file<'a, F: TreeFiles, E: Output>(
     ensures first { IfErr result (λ ending. (drawn : Bool) → TellsFirst drawn ending (E.seen errors.old) (E.seen errors.new)) }
     ensures kept { (E.seen errors.old).failures ≤ (E.seen errors.new).failures }
 {
-    read_told(files, name, TOO_LARGE, errors)
+    let file = match read_any_file(files, name, errors) {
+        Ok(file) => file,
+        Err(ending) => return Err(ending),
+    };
+    if is_script(&file) {
+        drop(file);
+        return Err(tell_not_read(errors, name, IS_A_SCRIPT));
+    }
+    Ok(file)
 }
 
 /// The bytes of a log, of which there are at most [`LARGEST_FILE`]. Standard input, which is the file `-`, may be no longer than a

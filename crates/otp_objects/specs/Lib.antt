@@ -1,2 +1,5 @@
 pub mod Names
+pub mod Values
 pub mod Limits
+pub mod Stops
+pub mod Trees

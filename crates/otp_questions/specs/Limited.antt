@@ -14,7 +14,7 @@ use Rattle.otp_trial.specs.declared.trial.Halt.{Halt}
 use Rattle.otp_trial.specs.declared.trial.Halt.TheVariants as halt
 use Rattle.otp_exit.specs.declared.ending.ProgramEnd.{ProgramEnd}
 use Rattle.otp_exit.specs.Devices.{HasTree}
-use Rattle.otp_exit.specs.declared.ending.ProgramEnd.TheVariants.{Done, NotFound, HistoryFull, OutOfMemory}
+use Rattle.otp_exit.specs.declared.ending.ProgramEnd.TheVariants.{Done, NotFound, NoSupervisor, HistoryFull, OutOfMemory}
 use Rattle.otp_questions.specs.Said.{IsNotSaid}
 
 -- how the program ends where a core can't be played on
@@ -36,16 +36,18 @@ abbrev pub HasNone : Bool → List ℕ → Grain → Pick → List ℕ → Type 
 HasNone is_json name grain pick file =
     (tree : Tree) × (after : List ℕ) × (Says file (Ok tree) × TellsLimits is_json name false grain pick tree [] after)
 
--- the name of a child or a supervisor that is asked for
-abbrev pub IsNameOf : Pick → Bor (List ℕ) → Type 0
-IsNameOf pick.All what = ⊥
-IsNameOf (pick.Child name) what = what ≡ name
-IsNameOf (pick.Table name) what = what ≡ name
+-- how the program ends where there is no child, or no supervisor with children, of the name that is asked for
+abbrev pub IsUnknown : Pick → ProgramEnd → Type 0
+IsUnknown pick.All ending = ⊥
+IsUnknown (pick.Child name) ending = ending ≡ NotFound name
+IsUnknown (pick.Table name) ending = ending ≡ NoSupervisor name
 
 -- the limits of a tree were written, or none of its children has the name that is asked for
 abbrev pub IsLimited : Bool → Grain → Pick → List ℕ → ProgramEnd → List ℕ → Written → Written → Type 0
 IsLimited is_json grain pick name Done file old new =
     (text : List ℕ) × (HasLimits is_json name grain pick file text × Appends old.bytes new.bytes text)
-IsLimited is_json grain pick name (NotFound what) file old new = (new ≡ old) × (IsNameOf pick what × HasNone is_json name grain pick file)
+IsLimited is_json grain pick name (NotFound what) file old new = (new ≡ old) × (IsUnknown pick (NotFound what) × HasNone is_json name grain pick file)
+IsLimited is_json grain pick name (NoSupervisor what) file old new =
+    (new ≡ old) × (IsUnknown pick (NoSupervisor what) × HasNone is_json name grain pick file)
 IsLimited is_json grain pick name HistoryFull file old new = (new ≡ old) × HasTree file
 IsLimited is_json grain pick name ending file old new = IsNotSaid name ending file old new

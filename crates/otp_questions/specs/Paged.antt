@@ -1,5 +1,6 @@
 -- Pages of HTML, and objects, that are made of a file and not yet written (own).
-use Rattle.std.specs.Prelude.{◌≡◌, ◌⊎◌, ℕ, ◌<◌, true, false, List, [], Ok}
+use Rattle.std.specs.Prelude.{◌≡◌, ◌⊎◌, ℕ, ◌<◌, true, false, List, [], Option, Ok}
+use Rattle.std.specs.Borrow.{Bor}
 use Rattle.std.specs.Io.KnownBytes.{Appends}
 use Rattle.otp_sim.specs.Devices.{Written}
 use Rattle.otp_account.specs.Accounts.{IsAccount}
@@ -15,8 +16,8 @@ use Rattle.otp_try_pages.specs.Objects.{TellsRun}
 use Rattle.otp_try_pages.specs.Timeline.{TellsPage}
 use Rattle.otp_exit.specs.Devices.{HasTree}
 use Rattle.otp_exit.specs.declared.ending.ProgramEnd.{ProgramEnd}
-use Rattle.otp_exit.specs.declared.ending.ProgramEnd.TheVariants.{Done, NoTree, NotFound, HistoryFull, OutputFailed, OutOfMemory}
-use Rattle.otp_questions.specs.Limited.{IsNameOf}
+use Rattle.otp_exit.specs.declared.ending.ProgramEnd.TheVariants.{Done, NoTree, NotFound, NoSupervisor, HistoryFull, OutputFailed, OutOfMemory}
+use Rattle.otp_questions.specs.Limited.{IsUnknown}
 use Rattle.otp_questions.specs.Tried.{ending_of_try}
 
 -- nothing was made of the file of this name: it says no tree, a supervisor's history gave out, or memory did
@@ -38,24 +39,31 @@ IsLimitsPage grain pick name file ending page =
 -- or there is none of them, or nothing was made
 abbrev pub HasNoLimits : Grain → Pick → List ℕ → ProgramEnd → List ℕ → Type 0
 HasNoLimits grain pick name (NotFound what) file =
-    IsNameOf pick what × ((tree : Tree) × (after : List ℕ) × (Says file (Ok tree) × TellsLimits false name grain pick tree [] after))
+    IsUnknown pick (NotFound what) × ((tree : Tree) × (after : List ℕ) × (Says file (Ok tree) × TellsLimits false name grain pick tree [] after))
+HasNoLimits grain pick name (NoSupervisor what) file =
+    IsUnknown pick (NoSupervisor what)
+    × ((tree : Tree) × (after : List ℕ) × (Says file (Ok tree) × TellsLimits false name grain pick tree [] after))
 HasNoLimits grain pick name ending file = IsNotMade name ending file
 
--- a run of a script on the tree that the file says, as it is kept; after it the program ends so
-abbrev pub IsRunOf : List ℕ → Account → ProgramEnd → Type 0
-IsRunOf file account ending = (tree : Tree) × (Says file (Ok tree) × (IsAccount tree account × (ending ≡ ending_of_try account.end)))
+-- a run of a script on the tree that the file says, as it is kept
+abbrev pub IsRunOf : List ℕ → Account → Type 0
+IsRunOf file account = (tree : Tree) × (Says file (Ok tree) × IsAccount tree account)
+
+-- after a run of the script of this name, if it has one, the program ends so
+abbrev pub EndsRun : Option (Bor (List ℕ)) → Account → ProgramEnd → Type 0
+EndsRun script account ending = ending ≡ ending_of_try script account.end
 
 -- as a page
-abbrev pub IsRunPage : List ℕ → List ℕ → ProgramEnd → List ℕ → Type 0
-IsRunPage name file ending page = (account : Account) × (IsRunOf file account ending × TellsPage name account page)
+abbrev pub IsRunPage : List ℕ → Option (Bor (List ℕ)) → List ℕ → ProgramEnd → List ℕ → Type 0
+IsRunPage name script file ending page = (account : Account) × ((IsRunOf file account × EndsRun script account ending) × TellsPage name account page)
 
 -- as an object
-abbrev pub IsRunObject : List ℕ → List ℕ → ProgramEnd → List ℕ → Type 0
-IsRunObject name file ending text = (account : Account) × (IsRunOf file account ending × TellsRun name account text)
+abbrev pub IsRunObject : List ℕ → Option (Bor (List ℕ)) → List ℕ → ProgramEnd → List ℕ → Type 0
+IsRunObject name script file ending text = (account : Account) × ((IsRunOf file account × EndsRun script account ending) × TellsRun name account text)
 
 -- a run was written as an object, or not
-abbrev pub IsRunTold : List ℕ → ProgramEnd → List ℕ → Written → Written → Type 0
-IsRunTold name ending file old new =
-    ((text : List ℕ) × (IsRunObject name file ending text × Appends old.bytes new.bytes text))
+abbrev pub IsRunTold : List ℕ → Option (Bor (List ℕ)) → ProgramEnd → List ℕ → Written → Written → Type 0
+IsRunTold name script ending file old new =
+    ((text : List ℕ) × (IsRunObject name script file ending text × Appends old.bytes new.bytes text))
     ⊎ (((ending ≡ OutputFailed) × (HasTree file × (old.failures < new.failures)))
     ⊎ ((new ≡ old) × IsNotMade name ending file))

@@ -1,5 +1,5 @@
 -- What `replay` writes (own).
-use Rattle.std.specs.Prelude.{◌≡◌, ◌⊎◌, ℕ, Bool, List, Option, Ok, Err}
+use Rattle.std.specs.Prelude.{◌≡◌, ◌⊎◌, ℕ, Bool, List, Option, Some, Ok, Err}
 use Rattle.std.specs.Borrow.{Bor}
 use Rattle.otp_check.specs.Checks.{IsFirstFault}
 use Rattle.otp_file.specs.Files.{Says}
@@ -26,13 +26,13 @@ IsReplay log text is_listed name Done file old new = WasReplayed trial.Done file
 IsReplay log text is_listed name (NoTree why named) file old new = (new ≡ old) × ((named.now ≡ name) × IsFirstFault why file)
 IsReplay log text is_listed name (LogRefused what why) file old new =
     (new.bytes ≡ old.bytes) × ((what ≡ log) × (HasTree file × (log_in text ≡ Err why)))
-IsReplay log text is_listed name (ScriptRefused line why) file old new =
-    WasReplayed (trial.LineRefused line why) file log.now text is_listed old.bytes new.bytes
-IsReplay log text is_listed name (ScriptMissed line why) file old new =
-    WasReplayed (trial.LineMissed line why) file log.now text is_listed old.bytes new.bytes
-    ⊎ WasReplayed (trial.LeftOut line why) file log.now text is_listed old.bytes new.bytes
-IsReplay log text is_listed name (ExpectationFailed line) file old new =
-    WasReplayed (trial.ExpectationFailed line) file log.now text is_listed old.bytes new.bytes
+IsReplay log text is_listed name (ScriptRefused what line why) file old new =
+    (what ≡ Some log) × WasReplayed (trial.LineRefused line why) file log.now text is_listed old.bytes new.bytes
+IsReplay log text is_listed name (ScriptMissed what line why) file old new =
+    (what ≡ Some log) × (WasReplayed (trial.LineMissed line why) file log.now text is_listed old.bytes new.bytes
+    ⊎ WasReplayed (trial.LeftOut line why) file log.now text is_listed old.bytes new.bytes)
+IsReplay log text is_listed name (ExpectationFailed what line) file old new =
+    (what ≡ Some log) × WasReplayed (trial.ExpectationFailed line) file log.now text is_listed old.bytes new.bytes
 IsReplay log text is_listed name NothingPlayed file old new = WasReplayed trial.NothingPlayed file log.now text is_listed old.bytes new.bytes
 IsReplay log text is_listed name HistoryFull file old new = WasReplayed trial.HistoryFull file log.now text is_listed old.bytes new.bytes
 IsReplay log text is_listed name InputFailed file old new = WasReplayed trial.InputFailed file log.now text is_listed old.bytes new.bytes

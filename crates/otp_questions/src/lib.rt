@@ -14,7 +14,7 @@ pub mod suggesting;
 pub mod trying;
 
 pub use comparing::compare_files;
-pub use drawing::draw_file;
+pub use drawing::{draw_file, tell_tree};
 pub use limiting::{Asking, end_of_halt, limit_file};
 pub use paging::{page_of_limits, page_of_tree};
 pub use playing::{page_of_run, tell_run};

@@ -1,9 +1,7 @@
 //! `limits`: what does each child's failure cost?
 
-ghost use Rattle.std.specs.Prelude.{◌≡◌, ℕ, List, IfOk, false};
-ghost use Rattle.std.specs.Borrow.{Bor};
-ghost use Rattle.otp_exit.specs.declared.ending.ProgramEnd.TheVariants.{NotFound};
-ghost use Rattle.otp_questions.specs.Limited.{IsLimited, IsNameOf, TellsLimits, ending_of_halt};
+ghost use Rattle.std.specs.Prelude.{◌≡◌, IfOk, false};
+ghost use Rattle.otp_questions.specs.Limited.{IsLimited, IsUnknown, TellsLimits, ending_of_halt};
 ghost use Rattle.otp_costs.specs.Told.{is_all};
 
 use otp_costs::{Grain, Pick, Progress, write_limits};
@@ -83,14 +81,15 @@ pub fn limit_file<'a, P: Progress, W: Output>(
     }
 }
 
-/// The end where no child is found by a name.
+/// The end where no child, or no supervisor, is found by a name.
 #[tactic(auto, unfolding(otp_costs::specs::Told::is_all))]
 pub(crate) fn not_found<'a>(pick: Pick<'a>) -> ProgramEnd<'a>
     requires { is_all pick ≡ false }
-    ensures { (what : Bor (List ℕ)) × (IsNameOf pick.entry what × (result ≡ NotFound what)) }
+    ensures { IsUnknown pick.entry result }
 {
     match pick {
-        Pick::Child(name) | Pick::Table(name) => ProgramEnd::NotFound(name),
+        Pick::Child(name) => ProgramEnd::NotFound(name),
+        Pick::Table(name) => ProgramEnd::NoSupervisor(name),
         Pick::All => ProgramEnd::Done,
     }
 }

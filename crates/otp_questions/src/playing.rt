@@ -2,7 +2,6 @@
 
 ghost use Rattle.std.specs.Prelude.{IfErr, IfOk};
 ghost use Rattle.otp_questions.specs.Paged.{IsNotMade, IsRunOf, IsRunPage, IsRunTold};
-ghost use Rattle.otp_questions.specs.Tried.{ending_of_try};
 
 use crate::limiting::end_of_halt;
 use crate::trying::end_of_try;
@@ -22,7 +21,7 @@ fn run_of<'a>(
     script: &[u8],
     clock: Clock,
 ) -> Result<Account, ProgramEnd<'a>>
-    ensures run { IfOk result (λ account. IsRunOf file.now account (ending_of_try account.end)) }
+    ensures run { IfOk result (IsRunOf file.now) }
     ensures none { IfErr result (λ ending. IsNotMade name.now ending file.now) }
 {
     let tree = match read_tree(alloc, file) {
@@ -37,16 +36,18 @@ fn run_of<'a>(
     }
 }
 
-/// Plays a script on the tree of a file, and writes the run as an object of JSON. It ends as that of a script does.
+/// Plays the script of this name, if it has one, on the tree of a file, and writes the run as an object of JSON. It ends as that of a
+/// script does.
 pub fn tell_run<'a, W: Output>(
     alloc: Global,
     name: &'a str,
     file: &[u8],
+    called: Option<&'a str>,
     script: &[u8],
     clock: Clock,
     output: &mut W,
 ) -> ProgramEnd<'a>
-    ensures { IsRunTold name.now result file.now (W.seen output.old) (W.seen output.new) }
+    ensures { IsRunTold name.now called.entry result file.now (W.seen output.old) (W.seen output.new) }
 {
     let account = match run_of(alloc, name, file, script, clock) {
         Ok(account) => account,
@@ -54,7 +55,7 @@ pub fn tell_run<'a, W: Output>(
     };
     let mut text = Vec::new(alloc);
     let told = write_try_object(alloc, name.as_bytes(), &account, &mut text);
-    let ending = end_of_try(account.end);
+    let ending = end_of_try(called, account.end);
     drop(account);
     let Ok(()) = told else {
         return ProgramEnd::OutOfMemory;
@@ -65,7 +66,8 @@ pub fn tell_run<'a, W: Output>(
     }
 }
 
-/// Plays a script on the tree of a file. The run as a page of HTML, and how the program ends once that is written.
+/// Plays the script of this name, if it has one, on the tree of a file. The run as a page of HTML, and how the program ends once that is
+/// written.
 ///
 /// # Errors
 ///
@@ -74,16 +76,17 @@ pub fn page_of_run<'a>(
     alloc: Global,
     name: &'a str,
     file: &[u8],
+    called: Option<&'a str>,
     script: &[u8],
     clock: Clock,
 ) -> Result<(Vec<u8>, ProgramEnd<'a>), ProgramEnd<'a>>
-    ensures page { IfOk result (λ run. IsRunPage name.now file.now run.1 run.0.items) }
+    ensures page { IfOk result (λ run. IsRunPage name.now called.entry file.now run.1 run.0.items) }
     ensures none { IfErr result (λ ending. IsNotMade name.now ending file.now) }
 {
     let account = run_of(alloc, name, file, script, clock)?;
     let mut page = Vec::new(alloc);
     let told = write_timeline_page(alloc, name.as_bytes(), &account, &mut page);
-    let ending = end_of_try(account.end);
+    let ending = end_of_try(called, account.end);
     drop(account);
     match told {
         Ok(()) => Ok((page, ending)),

@@ -40,7 +40,7 @@ pub fn replay_file<'a, W: Output>(
         replaying,
         output,
     ) {
-        ReplayEnd::Tried(end) => end_of_try(end),
+        ReplayEnd::Tried(end) => end_of_try(Some(log.name), end),
         ReplayEnd::LogRefused(fault) => ProgramEnd::LogRefused(log.name, fault),
     }
 }
