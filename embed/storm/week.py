@@ -1,6 +1,7 @@
 """A week in some seconds: the daemon with a clock that is handed in, and with stand-ins for its processes."""
 
 import collections
+import contextlib
 import json
 import os
 import random
@@ -68,6 +69,13 @@ def write_script(path, most):
     return script.last
 
 
+def memory_of(pid):
+    """KiB that a program has had at the most so far; what called it isn't counted."""
+    with contextlib.suppress(OSError, StopIteration), open(f"/proc/{pid}/status", encoding="utf-8") as file:
+        return next(int(line.split()[1]) for line in file if line.startswith("VmHWM:"))
+    return 0
+
+
 @row("a week with a crash each twelve seconds, by a clock that is handed in")
 def week(it):
     os.makedirs(it.folder, exist_ok=True)
@@ -78,8 +86,11 @@ def week(it):
     begun = time.monotonic()
     with open(script, "rb") as told, open(log, "wb") as written:
         daemon = subprocess.Popen([it.program, "stand-in", tree], stdin=told, stderr=written)
-        _, status, used = os.wait4(daemon.pid, 0)
-    expect(status == 0, f"status {status}")
+        most = 0
+        while daemon.poll() is None:
+            most = memory_of(daemon.pid) or most
+            time.sleep(0.02)
+    expect(daemon.returncode == 0, f"status {daemon.returncode}")
     with open(log, encoding="utf-8") as file:
         lines = file.readlines()
     orders = [line for line in lines if '"order":' in line]
@@ -88,5 +99,5 @@ def week(it):
     expect(last["order"] == "end" and "more restarts" in last["cause"], f"the last order is {last}")
     played = subprocess.run([it.program, "replay", tree, log], stdout=subprocess.PIPE, stderr=subprocess.STDOUT, text=True, timeout=PATIENCE)
     expect(played.returncode == 0, f"replay: {played.stdout}")
-    took, most = time.monotonic() - begun, used.ru_maxrss / 1024
-    return f"{started - CHILDREN} restarts, {len(lines)} lines, no difference when played again; {took:.0f} s, at most {most:.0f} MiB"
+    took = time.monotonic() - begun
+    return f"{started - CHILDREN} restarts, {len(lines)} lines, no difference when played again; {took:.0f} s, at most {most / 1024:.0f} MiB"

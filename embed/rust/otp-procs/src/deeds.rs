@@ -159,15 +159,16 @@ impl Daemon {
     pub(crate) fn look_at_supervisors(&mut self) {
         let touched = std::mem::take(&mut self.touched);
         let mut near = BTreeSet::new();
-        for number in touched {
-            self.add_near(number, &mut near);
+        for number in &touched {
+            self.add_near(*number, &mut near);
         }
         let is_anew = near.iter().any(|number| !number.is_root() && self.seen_anew(*number).is_some());
         if is_anew {
             self.look_at_restarts(self.tree.supervisors());
             self.tree.supervisors().skip(1).for_each(|number| self.tell_supervisor(number));
         } else {
-            self.look_at_restarts(near);
+            // Who restarts a process is told of its end.
+            self.look_at_restarts(touched);
         }
     }
 

@@ -191,18 +191,18 @@ impl Daemon {
     /// Calls the supervisor of what was named, or says why not.
     fn wish(&mut self, token: u64, path: &str, wish: Wish, named: Named) -> Result<(), String> {
         match named {
-            Named::Supervisor(SupervisorId::ROOT) if wish == Wish::Start => {
-                Err("the root runs; start PATH starts a child, as ctl status names them".to_string())
-            }
-            Named::Supervisor(SupervisorId::ROOT) => {
-                Err("the root is the whole tree; ctl shutdown stops it".to_string())
-            }
             Named::Supervisor(number)
                 if wish == Wish::Start && self.strategy_of(number) == Some(Strategy::SimpleOneForOne) =>
             {
                 let number = self.running(path)?;
                 self.call(Told::Call(number, CallKind::StartDynamic), Waiter::new(token, path));
                 Ok(())
+            }
+            Named::Supervisor(SupervisorId::ROOT) if wish == Wish::Start => {
+                Err("the root runs; start PATH starts a child, as ctl status names them".to_string())
+            }
+            Named::Supervisor(SupervisorId::ROOT) => {
+                Err("the root is the whole tree; ctl shutdown stops it".to_string())
             }
             Named::Supervisor(number) => {
                 let (above, id) = self.as_child(number).ok_or_else(|| format!("{path} is no child"))?;
@@ -214,7 +214,8 @@ impl Daemon {
                 Ok(())
             }
             Named::Dynamic(supervisor, _) => {
-                let above = self.paths.get(supervisor.index()).map_or("", String::as_str);
+                let above = self.paths.get(supervisor.index()).map(String::as_str).filter(|path| !path.is_empty());
+                let above = above.unwrap_or("/");
                 let what = if wish == Wish::Start {
                     "is not started by its number; "
                 } else {

@@ -3,7 +3,7 @@
 mod common;
 
 use common::daemon::{Daemon, HUP, KILL, PATIENCE, PROGRAM, new_folder, send, wait_until, write_program};
-use std::collections::BTreeMap;
+use std::collections::{BTreeMap, BTreeSet};
 use std::fs;
 use std::os::unix::net::UnixDatagram;
 use std::process::Command;
@@ -216,11 +216,30 @@ fn the_processes_of_a_root_that_shares_one_specification_run_on() {
     let tree = |more: &str| format!("strategy = \"simple_one_for_one\"\n{more}{}", child("w", ""));
     let daemon = Daemon::start(&tree(""), COMMANDS);
     daemon.wait_ready();
-    assert!(daemon.ctl(&["start", "/"]).0 || daemon.ctl(&["status"]).0);
-    write(&daemon, &tree("intensity = 5\n"));
-    assert_eq!(reload(&daemon, &[]), "now     /: intensity 1 -> 5\n");
-    let (is_done, text) = daemon.ctl(&["reexec"]);
-    assert!(is_done, "{text}");
+    for _ in 0..3 {
+        assert!(daemon.ctl(&["start", "/"]).0);
+    }
+    assert!(daemon.ctl(&["stop", "#2"]).0);
+    assert!(daemon.ctl(&["start", "#1"]).1.contains("start / starts one more"));
+    let before = status(&daemon).1;
+    assert_eq!(before.len(), 2);
+    write(&daemon, &tree("intensity = 5\nperiod = 3600\n"));
+    assert_eq!(reload(&daemon, &[]), "now     /: intensity 1 -> 5, period 5 -> 3600\n");
+    assert_eq!(status(&daemon).1, before);
+    // Over a new program their restarts go on, too.
+    for count in 1..=3 {
+        let pids: BTreeSet<i32> = status(&daemon).1.into_values().collect();
+        send(*pids.first().unwrap(), KILL);
+        wait_until("it is restarted", || {
+            let now: BTreeSet<i32> = status(&daemon).1.into_values().collect();
+            now.len() == 2 && now != pids
+        });
+        let running: BTreeSet<i32> = status(&daemon).1.into_values().collect();
+        let (is_done, text) = daemon.ctl(&["reexec"]);
+        assert!(is_done, "{text}");
+        assert_eq!(restarts(&daemon, ""), format!("{count} of 5"));
+        assert_eq!(status(&daemon).1.into_values().collect::<BTreeSet<i32>>(), running);
+    }
     end(daemon);
 }
 
