@@ -265,10 +265,10 @@ fn check_small<R: Abort>(rt: &R, report: &Closed) {
     same(rt, "what is left", report.last.as_slice(), told.as_slice());
 }
 
-// The supervisor's turn started the first worker, which was up in the second. In the third the supervisor was told to stop, and the
-// fourth was the worker's.
+// The supervisor's first turn started the first worker, its second one the second; in its third it was told to stop. The last turn was the
+// second worker's first.
 fn has_answer_left<R: Abort>(rt: &R, report: &Closed) {
-    let up = [Item::Note(Note::Up(1))];
+    let up = [Item::Note(Note::Up(2))];
     match report.tables.first() {
         Some(root) => same(rt, "what it left", root.left.as_slice(), up.as_slice()),
         None => panic!(rt; "a supervisor"),
@@ -280,7 +280,7 @@ fn trees_that_are_closed_early_tell_what_is_left(rt: HostRuntime) {
     let mut left: u64 = 0;
     for turns in 1..20 {
         let report = report_of(&rt, rt.alloc(), Grove::Three, 1, turns);
-        if turns == 2 {
+        if turns == 3 {
             has_answer_left(&rt, &report);
         }
         check_accounts(&rt, &report);
