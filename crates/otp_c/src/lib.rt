@@ -62,7 +62,7 @@ fn tree_of(alloc: Global, text: &[u8]) -> Result<TreeSpec, Option<TableFault>>
     }
 }
 
-/// The same tree, opened.
+/// The tree of this text, opened.
 fn session_of(alloc: Global, text: &[u8]) -> Result<Session, Option<TableFault>>
     ensures { Reads text.now result }
 {

@@ -205,7 +205,7 @@ fn tried_command<'a>(alloc: Global) -> Result<clap::Command<'a>, AllocError>
     with_arg(command, width_arg(alloc))
 }
 
-/// The same with `[--json] [--html PAGE]`.
+/// `try`, with `[--json] [--html PAGE]`.
 fn try_command<'a>(alloc: Global) -> Result<clap::Command<'a>, AllocError>
     ensures { IfOk result (λ c. app_of c ≡ try_app) }
 {
@@ -233,7 +233,7 @@ fn picked_command<'a>(alloc: Global) -> Result<clap::Command<'a>, AllocError>
     with_arg(command, flag_arg(alloc, "each", EACH_HELP))
 }
 
-/// The same with `[--json] [--html PAGE]`.
+/// `limits`, with `[--json] [--html PAGE]`.
 fn limits_command<'a>(alloc: Global) -> Result<clap::Command<'a>, AllocError>
     ensures { IfOk result (λ c. app_of c ≡ limits_app) }
 {
@@ -313,7 +313,7 @@ fn shown_command<'a>(alloc: Global) -> Result<clap::Command<'a>, AllocError>
     with_arg(command, flag_arg(alloc, "why", WHY_HELP))
 }
 
-/// The same with `[--for TIME] [--grace TIME] [--log] [--json]`.
+/// `run`, with `[--for TIME] [--grace TIME] [--log] [--json]`.
 fn run_command<'a>(alloc: Global) -> Result<clap::Command<'a>, AllocError>
     ensures { IfOk result (λ c. app_of c ≡ run_app) }
 {

@@ -95,7 +95,7 @@ pub fn next_deadline(rows: &Rows) -> Option<u64>
     }
 }
 
-/// The same where some child has one.
+/// The soonest deadline, where some child has one.
 fn timed_deadline(rows: &Rows) -> Option<u64>
     ensures { result ≡ next_deadline rows.now.rows }
 {

@@ -288,7 +288,7 @@ impl Driver {
         self.supervisors[place].look_for(number);
     }
 
-    /// The same. Most orders are for the outside, as is seen without their routes; the child that such a one names is looked for.
+    /// The next order of the supervisor at this place is done. Most orders are for the outside, as is seen without their routes; the child that such a one names is looked for.
     fn go_on_at(&mut self, place: usize) -> Result<bool, DriveFault>
         requires place { place < length self.old.members }
         requires order { (m : Member) → IsAt self.old.members place m → has_order m ≡ true }
@@ -464,7 +464,7 @@ impl Driver {
         nested_at(links, place, supervisor, number).is_some()
     }
 
-    /// The same, by one look where no child of the supervisor is one of the tree.
+    /// Whether the process is a supervisor of the tree, by one look where no child of the supervisor is one of the tree.
     #[tactic(auto, unfolding(crate::specs::Driven::is_nested))]
     fn is_nested(&self, place: usize, number: u64) -> bool
         requires { place < length self.now.members }

@@ -59,7 +59,7 @@ impl Driver {
         let Some(left) = levels.checked_sub(1) else {
             return Err(AllocError);
         };
-        // And each of its trees is a child's.
+        // Each of its trees is a child's.
         let trees = tree.trees();
         let children = tree.nested().len();
         if trees.len() != children {

@@ -18,7 +18,7 @@ pub enum ImportFault {
 }
 
 impl ImportFault {
-    /// The same, at the byte of this place at most.
+    /// This fault, at the byte of this place at most.
     #[tactic(auto, unfolding(crate::specs::Faults::place_of))]
     pub fn within(self, size: usize) -> ImportFault
         ensures { place_of result ≤ size }

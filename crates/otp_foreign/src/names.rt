@@ -61,7 +61,7 @@ impl Id {
         self.put(byte);
     }
 
-    /// The same with `-` and a number of up to three digits behind it.
+    /// This id with `-` and a number of up to three digits behind it.
     pub fn numbered(&self, number: usize) -> Self {
         let mut id = *self;
         id.len = id.len.min(NAME_SIZE - 4);

@@ -104,7 +104,7 @@ impl<'a> Work<'a> {
         self.remarks.extend_from_slice(b"\n")
     }
 
-    /// The same, where a word or a number closes the remark.
+    /// Remarks that something at this place was read as a word or a number, which closes the remark.
     pub fn remark_as(
         &mut self,
         place: usize,
@@ -183,14 +183,14 @@ impl<'a> Work<'a> {
         self.commands.extend_from_slice(b"\n")
     }
 
-    /// The same of a number.
+    /// Writes a line of the commands' file: a key, and a number.
     pub fn command_number(&mut self, key: &str, number: u64) -> Result<(), AllocError> {
         self.begin_command(key)?;
         write_number(number, &mut self.commands)?;
         self.commands.extend_from_slice(b"\n")
     }
 
-    /// The same of a text.
+    /// Writes a line of the commands' file: a key, and a text in quotes.
     pub fn command_text(&mut self, key: &str, text: &[u8]) -> Result<(), AllocError> {
         self.begin_command(key)?;
         write_text(text, &mut self.commands)?;

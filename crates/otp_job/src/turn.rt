@@ -51,7 +51,7 @@ pub fn one_turn<J: Job, S: Subsystem>(process: Process<J, S>, signal: Signal) ->
     one_turn_at(process, signal, &Site::nowhere())
 }
 
-/// The same at a site, which a job hears of at its start.
+/// A turn at a site, which a job hears of at its start.
 pub fn one_turn_at<J: Job, S: Subsystem>(
     process: Process<J, S>,
     signal: Signal,

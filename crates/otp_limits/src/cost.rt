@@ -33,7 +33,7 @@ pub struct Cost {
     pub burst: Fate,
     /// How far apart its crashes must be.
     pub steady: Steady,
-    /// The same by the clock of OTP, which shows whole seconds.
+    /// How far apart they must be by the clock of OTP, which shows whole seconds.
     pub seconds: Steady,
 }
 

@@ -64,7 +64,7 @@ fn join(trial: &mut Trial, place: usize, page: &mut Vec<u8>) -> Result<(), Halt>
     Ok(())
 }
 
-/// The same, where there is such a supervisor.
+/// Does as `join`, where there is a supervisor at this place.
 fn join_at(trial: &mut Trial, place: usize, page: &mut Vec<u8>) -> Result<(), Halt>
     ensures joins { OnOk result (Joins (is_joined (slice_get trial.old.seats place)) place trial.old trial.new) }
     ensures time { OnOk result (trial.new.time ≡ trial.old.time) }

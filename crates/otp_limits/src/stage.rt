@@ -87,7 +87,7 @@ fn put(
     put_order(order, orders)
 }
 
-/// The same, unless memory was refused before. Whether it never was.
+/// Does as `put`, unless memory was refused before. Says whether it never was.
 fn put_if(
     is_whole: bool,
     order: &Effect,

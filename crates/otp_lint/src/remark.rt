@@ -51,7 +51,7 @@ impl Path {
     ghost use Rattle.otp_reason.specs.Names.{name_bytes};
     ghost use Rattle.otp_lint.specs.Lint.{child_path};
 
-    /// That of the root.
+    /// The path of the root.
     pub(crate) fn root(alloc: Global) -> Self
         ensures { result ≡ [] }
     {
@@ -69,7 +69,7 @@ impl Path {
         Ok(Path { bytes })
     }
 
-    /// That of a child of the supervisor that has this one.
+    /// The path of a child of the supervisor that has this one.
     pub(crate) fn child(&self, alloc: Global, id: &Name) -> Result<Self, AllocError>
         ensures { IfOk result (λ path. path ≡ child_path self.now (name_bytes id.now)) }
     {

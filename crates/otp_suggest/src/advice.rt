@@ -76,7 +76,7 @@ fn play_two(alloc: Global, supervisor: &SupSpec, id: &Name) -> Result<Fate, Halt
     play(alloc, supervisor, Clock::Milliseconds, id, 0, 2)
 }
 
-/// The same with the greatest intensity.
+/// How a supervisor of the greatest intensity fares where a child crashes twice at once.
 fn play_twice(alloc: Global, supervisor: &SupSpec, id: &Name) -> Result<Fate, Halt>
     ensures ok { IfOk result (Plays (turned Intensity MAX_INTENSITY supervisor.now.flags) supervisor.now.specs Milliseconds id.now 0 2) }
     ensures full { IfErr result (λ halt. halt ≡ HistoryFull → IsUnknown (turned Intensity MAX_INTENSITY supervisor.now.flags) supervisor.now.specs id.now) }

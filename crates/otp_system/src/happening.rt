@@ -11,7 +11,7 @@ use otp_spec::SupFlags;
 pub enum Happening {
     /// It started: of a supervisor, all its children have.
     Started(u64),
-    /// The same, by a restart, also that of another child, or by `restart_child`: its child had a process before. Where a supervisor
+    /// It started by a restart, also that of another child, or by `restart_child`: its child had a process before. Where a supervisor
     /// starts again, its own children start anew.
     Restarted(u64),
     /// Its start answered `ignore`.

@@ -60,7 +60,7 @@ impl<N: SupNaming, J: Job, S: Subsystem> System<N, J, S> {
         self.turn_heard(rt, hand, reading, &Nobody)
     }
 
-    /// The same, of which a listener is told.
+    /// A turn, of which a listener is told.
     pub fn turn_heard<R: Wait, L: Listener>(
         &self,
         rt: &R,

@@ -82,7 +82,7 @@ impl Plants {
         let Some(left) = levels.checked_sub(1) else {
             return Err(Halt::OutOfMemory);
         };
-        // And each of its trees is a child's.
+        // Each of its trees is a child's.
         let trees = tree.trees();
         let children = tree.nested().len();
         if trees.len() != children {

@@ -32,7 +32,7 @@ impl Service<'_> {
         Some(setting)
     }
 
-    /// The same in the section of the service.
+    /// The setting of a key in the section of the service.
     pub fn find(&self, text: &[u8], key: &[u8]) -> Option<Setting> {
         self.find_in(text, b"Service", key)
     }
@@ -60,7 +60,7 @@ impl Service<'_> {
         }
     }
 
-    /// The same of a key in whose place `TimeoutSec` may stand.
+    /// The time of a key in whose place `TimeoutSec` may stand.
     pub fn time_or(&self, text: &[u8], key: &[u8], usual: u64) -> Result<Option<u64>, ImportFault> {
         if self.find(text, key).is_some() {
             return self.time(text, key, usual);
