@@ -253,7 +253,7 @@ impl<N: SupNaming, B: Drop> Table<N, B> {
     /// Whether a turn under this process number, at this reading, so told, has nothing to do but for an item of the inbox: it would be
     /// [`TurnAnswer::Quiet`] where there is none, and memory isn't refused.
     pub fn is_settled(&self, number: u64, reading: u64, told: Signal) -> bool
-        ensures { IsTrue result → IsSettled number reading told self.now }
+        ensures { IsTrue result ↔ IsSettled number reading told self.now }
     {
         let _ = &self.taker;
         self.office.early_answer(number).is_none()
@@ -321,7 +321,7 @@ impl<N: SupNaming, B: Drop> Table<N, B> {
 
     /// Whether an order is still to be sent.
     pub fn has_orders(&self) -> bool
-        ensures { result ≡ false → self.now.office.outbox ≡ [] }
+        ensures { result ≡ false ↔ (self.now.office.outbox ≡ []) }
     {
         let _ = &self.taker;
         self.office.is_pending()
