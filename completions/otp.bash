@@ -10,17 +10,17 @@ _otp() {
     esac
     case $command in
         check) options="--run --lint --all --json --help" ;;
-        diff) options="--help" ;;
+        diff) options="--json --help" ;;
         import) options="--commands --help" ;;
         limits) options="--child --table --each --json --html --help" ;;
-        replay) options="--unmatched --timeline --quiet --clock --width --ids --strict --help" ;;
+        replay) options="--unmatched --timeline --quiet --clock --width --ids --strict --json --help" ;;
         run) options="--schedulers --turns --counts --tree --why --for --grace --log --json --help" ;;
-        shutdown) options="--json --help" ;;
+        shutdown) options="--within --json --help" ;;
         sim) options="--help" ;;
-        suggest) options="--child --every --help" ;;
+        suggest) options="--child --every --times --within --root --json --help" ;;
         tree) options="--json --html --help" ;;
-        try) options="--prompt --timeline --quiet --clock --width --json --html --help" ;;
-        help) COMPREPLY=($(compgen -W "check diff import limits replay run shutdown sim suggest tree try script lines otp" -- "$word")); return ;;
+        try) options="--prompt --timeline --quiet --clock --width --tap --json --html --help" ;;
+        help) COMPREPLY=($(compgen -W "check diff import limits replay run shutdown sim suggest tree try script lines file logs otp" -- "$word")); return ;;
     esac
     case $word in
         -*) COMPREPLY=($(compgen -W "$options" -- "$word")) ;;

@@ -22,7 +22,7 @@ ROOT = Path(__file__).resolve().parent.parent
 CALLS, COUNTS, STARTS, STOPS, DEATHS, PLACES, WORK, ENDS, STEP = (
     f"otp_machine/src/{rule}.rt" for rule in ("calls", "counts", "starts", "stops", "deaths", "places", "work", "ends", "step")
 )
-AFFECTED, STOPPING, LINES, DEADLINES = (f"otp_decisions/src/{rule}.rt" for rule in ("restarts", "stops", "counts", "step"))
+AFFECTED, STOPPING, LINES, DEADLINES = (f"otp_machine/src/decisions/{rule}.rt" for rule in ("restarts", "stops", "counts", "step"))
 PLAYER, VALUE, REASON = "otp_sim/src/player.rt", "otp_text/src/value.rt", "otp_reason/src/reason.rt"
 SUPERVISOR = "otp_core/src/supervisor.rt"
 CHECK, CHILD = "otp_spec/src/check.rt", "otp_spec/src/child.rt"

@@ -133,7 +133,7 @@ def long_input(sim):
 def too_long_line(sim):
     """A line has at most 512 bytes."""
     lines = "up 1\n" + "x" * 513 + "\nup 2\n"
-    return sim("too_long_line", with_children(2), lines, "start c0 #1\nstart c1 #2\n", LINES_TIP + "line 2 refused\n", 3)
+    return sim("too_long_line", with_children(2), lines, "start c0 #1\nstart c1 #2\n", LINES_TIP + "line 2 refused: more than 512 bytes\n", 3)
 
 
 def bytes_that_are_no_text(make):

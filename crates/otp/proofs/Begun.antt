@@ -7,15 +7,15 @@ use Rattle.otp_close.specs.declared.closing.CloseFault.{CloseFault}
 use Rattle.otp_draft.specs.Plans.{HasAllBodies, Planned, numbered, seen}
 use Rattle.otp_draft.specs.Trees.{Tree}
 use Rattle.otp_draft.specs.Trees as draft
-use Rattle.otp_draft.specs.declared.plan.TablePlan as drawn
+use Rattle.otp_draft.specs.declared.plan.DraftedTable as drawn
 use Rattle.otp_open.proofs.EachOpened.{none_lacks}
 use Rattle.otp_open.proofs.SparePlaces.{all_known}
 use Rattle.otp_open.specs.Plans.{HaveBodies, Suffice}
 use Rattle.otp_open.specs.Plans as opened
 use Rattle.otp_open.specs.declared.opening.SystemFault.TheVariants as unopened
 use Rattle.otp_open.specs.declared.plan.TablePlan.{TablePlan}
-use Rattle.otp_report.specs.declared.report.Report.{Report}
-use Rattle.otp_report.specs.declared.report.TableReport.{TableReport}
+use Rattle.otp_close.specs.declared.report.report.Report.{Report}
+use Rattle.otp_close.specs.declared.report.report.TableReport.{TableReport}
 use Rattle.otp_rules.specs.Step.{opening_specs}
 use Rattle.otp_run.proofs.Places.{each_at, map_at}
 use Rattle.otp_run.specs.Lists.{AllAt}
@@ -61,13 +61,13 @@ module _ {J S : Type 0} where
   abbrev Enough : Planned J S → Type 0
   Enough plan = Suffice (length plan.bodies) plan.supervisor
 
-  enough : (plans : List (drawn.TablePlan J S)) → All HasAllBodies plans → AllAt (λ _ plan. Enough plan) (map seen plans)
+  enough : (plans : List (drawn.DraftedTable J S)) → All HasAllBodies plans → AllAt (λ _ plan. Enough plan) (map seen plans)
   enough [] all k = tt
   enough (plan ∷ plans) all zero = is_enough (is_simple plan.supervisor.flags.strategy) plan.supervisor.specs (length plan.bodies.items) (all 0 plan (omega arith))
   enough (plan ∷ plans) all (suc k) = enough plans (λ j d within. all (suc j) d (omega (arith, within))) k
 
   -- plans that say the same have their bodies too
-  pub have_bodies : (plans : List (TablePlan J S)) (of : List (drawn.TablePlan J S)) → map seen_in_tree plans ≡ map seen of → All HasAllBodies of → HaveBodies plans
+  pub have_bodies : (plans : List (TablePlan J S)) (of : List (drawn.DraftedTable J S)) → map seen_in_tree plans ≡ map seen of → All HasAllBodies of → HaveBodies plans
   have_bodies plans of same all = map_at seen_in_tree (λ _ plan. Enough plan) plans (subst (AllAt (λ _ plan. Enough plan)) (sym same) (enough of all))
 
   -- where each plan has its bodies, none lacks one

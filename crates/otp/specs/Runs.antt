@@ -66,7 +66,7 @@ module _ {J S : Type 0} where
       IsAddNoneBare back.fault × ((back.fault ≡ add.Occupied) ⊎ (map seen_in_tree back.plans.items ≡ numbered 0 (plans_of tree)))
   IsNotAdded tree (not_added.Over plans) = ⊥
 
-  -- the same by a caller. What a hand did for it lay under a lock, and is known by its type alone
+  -- why a caller added no supervisors. What a hand did for it lay under a lock, and is known by its type alone
   abbrev pub IsNotGrown : Tree J S → NotAdded J S → Type 0
   IsNotGrown tree (not_added.Unfinished back) = IsUnfinished tree back
   IsNotGrown tree (not_added.Unadded back) = ⊤

@@ -1,7 +1,7 @@
 //! A tree of supervisors with jobs of your own: all that its users need, from one crate.
 //!
 //! A child is a [`Job`]. A supervisor is drawn up child by child ([`TreeDraft`]), and goes by value below another; so
-//! nobody numbers supervisors. [`run`] runs a tree until its root has ended or a [`Stop`] is raised, on threads that sleep while
+//! nobody numbers supervisors. [`run`] runs a tree until its root has ended or a [`StopFlag`] is raised, on threads that sleep while
 //! there is nothing to do. [`run_turns`] is a life counted in turns, and [`lead`] goes round by round, as a [`Leader`] says. Each
 //! fault of a draft has its name ([`DraftFault`]), and what was handed in comes back with it ([`Refused`], [`Unrun`]); where it
 //! needn't, `?` makes a [`Fault`] of it.
@@ -37,9 +37,6 @@ pub use adding::add_tree;
 pub use adding::grow;
 pub use fault::Fault;
 pub use fault::Unrun;
-pub use otp_bridge::BoxedSubsystem;
-pub use otp_bridge::Bridge;
-pub use otp_bridge::Subsystem;
 pub use otp_core::ReplyAnswer;
 pub use otp_draft::Child;
 pub use otp_draft::ChildKeys;
@@ -57,6 +54,9 @@ pub use otp_job::NoWaker;
 pub use otp_job::Place;
 pub use otp_job::Told;
 pub use otp_job::Turn;
+pub use otp_job::bridge::BoxedSubsystem;
+pub use otp_job::bridge::Bridge;
+pub use otp_job::bridge::Subsystem;
 pub use otp_live::AddError;
 pub use otp_live::Answer;
 pub use otp_live::CallError;
@@ -71,7 +71,7 @@ pub use otp_live::RestartRefusal;
 pub use otp_live::Seen;
 pub use otp_live::StartEnd;
 pub use otp_live::StartRefusal;
-pub use otp_live::Stop;
+pub use otp_live::StopFlag;
 pub use otp_live::TerminateRefusal;
 pub use otp_live::Unwatched;
 pub use otp_live::Waker;
@@ -101,7 +101,6 @@ pub use otp_tree::CallEnd;
 pub use otp_tree::CallId;
 pub use otp_tree::CallRefusal;
 pub use otp_tree::CallRequest;
-pub use otp_tree::Client;
 pub use otp_tree::CountedRun;
 pub use otp_tree::Gate;
 pub use otp_tree::Hand;
@@ -118,6 +117,7 @@ pub use otp_tree::System;
 pub use otp_tree::SystemFault;
 pub use otp_tree::TablePlan;
 pub use otp_tree::TableReport;
+pub use otp_tree::TreeClient;
 pub use otp_tree::TreeNaming;
 pub use otp_tree::Unadded;
 pub use otp_tree::Uncalled;

@@ -11,10 +11,10 @@ ghost use Rattle.otp.specs.Runs.{IsBack, IsUnfinished, seen_in_tree, supervisors
 
 use crate::fault::Unrun;
 use crate::watching::{AtPaths, paths_for};
-use otp_bridge::Subsystem;
-use otp_draft::{DraftFault, Refused, TablePlan, TreeDraft};
+use otp_draft::{DraftFault, DraftedTable, Refused, TreeDraft};
 use otp_job::Job;
-use otp_live::{Caller, Growing, Stop, Watch, close_callers};
+use otp_job::bridge::Subsystem;
+use otp_live::{Caller, Growing, StopFlag, Watch, close_callers};
 use otp_spec::MAX_TABLES;
 use otp_tree::{
     CountedRun, Gate, Leader, Led, MAX_HANDS, Report, RunFault, Session, run_tree_counted,
@@ -27,7 +27,7 @@ use std::time::Clock;
 
 /// These plans, as `otp_tree` has them. Takes no memory.
 fn handed_on<J: Drop, S: Drop>(
-    plans: Vec<TablePlan<J, S>>,
+    plans: Vec<DraftedTable<J, S>>,
     room: Vec<otp_tree::TablePlan<J, S>>,
 ) -> Vec<otp_tree::TablePlan<J, S>>
     requires none { room.items ≡ [] }
@@ -37,7 +37,7 @@ fn handed_on<J: Drop, S: Drop>(
 {
     let mut handed = room;
     for plan in plans {
-        let TablePlan { supervisor, bodies } = plan;
+        let DraftedTable { supervisor, bodies } = plan;
         handed.push_reserved(otp_tree::TablePlan { supervisor, bodies });
     }
     handed
@@ -122,7 +122,7 @@ pub fn run<R, J, S, W>(
     alloc: Global,
     root: TreeDraft<J, S>,
     hands: usize,
-    stop: &Stop,
+    stop: &StopFlag,
     watch: &W,
 ) -> Result<Report<J, S>, Unrun<J, S>>
 where
@@ -152,7 +152,7 @@ pub fn run_with_callers<R, J, S, W>(
     alloc: Global,
     root: TreeDraft<J, S>,
     hands: usize,
-    stop: &Stop,
+    stop: &StopFlag,
     watch: &W,
     callers: &[Caller<J, S>],
 ) -> Result<Report<J, S>, Unrun<J, S>>
@@ -196,7 +196,7 @@ pub fn run_growing<R, J, S, W>(
     alloc: Global,
     tree: GrowingTree<J, S>,
     hands: usize,
-    stop: &Stop,
+    stop: &StopFlag,
     watch: &W,
     callers: &[Caller<J, S>],
 ) -> Result<Report<J, S>, Unrun<J, S>>

@@ -1,1 +1,9 @@
+pub mod Counted
+pub mod Fitted
+pub mod Kept
+pub mod Refused
 pub mod Restarts
+pub mod Resumes
+pub mod Same
+pub mod Seating
+pub mod Slots

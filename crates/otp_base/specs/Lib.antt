@@ -1,2 +1,5 @@
-pub mod States
+pub mod Change
 pub mod Lawful
+pub mod Laws
+pub mod Seats
+pub mod States

@@ -9,31 +9,31 @@ use otp_machine::Machine;
 use std::marker::{Model, PhantomData};
 
 /// A state that only clauses read. It has no bytes, and its methods do nothing at run time.
-pub struct Origin {
+pub struct BaseState {
     pub(crate) marker: PhantomData<()>,
     pub ghost state: { State },
 }
 
-impl Model for Origin {
+impl Model for BaseState {
     ghost also_owns = { λ _. ftrue };
 }
 
-impl Drop for Origin {
+impl Drop for BaseState {
     fn drop(self) {
         let Self { marker: _ } = self;
     }
 }
 
 // It has no bytes and owns nothing.
-unsafe impl Send for Origin {}
+unsafe impl Send for BaseState {}
 
-unsafe impl Sync for Origin {}
+unsafe impl Sync for BaseState {}
 
 /// The state of a machine.
-pub fn origin_of(machine: &Machine) -> Origin
+pub fn origin_of(machine: &Machine) -> BaseState
     ensures state { result.state ≡ (outcome_of machine.now).state }
 {
-    Origin {
+    BaseState {
         marker: PhantomData,
     }
 }

@@ -7,12 +7,12 @@ use Rattle.std.proofs.lemmas.List.Sums.{sum_by-append, sum_by-cons}
 use Rattle.otp_table.specs.declared.row.Row.{Row}
 use Rattle.otp_bodies.specs.declared.bodies.Kept.{Kept}
 use Rattle.otp_bodies.specs.declared.bodies.Origin.TheVariants as origin
-use Rattle.otp_bodies.specs.declared.bodies.Place.{Place}
-use Rattle.otp_bodies.specs.declared.bodies.Place.TheVariants as placed
+use Rattle.otp_bodies.specs.declared.bodies.BodyPlace.{BodyPlace}
+use Rattle.otp_bodies.specs.declared.bodies.BodyPlace.TheVariants as placed
 use Rattle.otp_bodies.specs.Bodies.{bodies_in, came_for, has_body, home_or_free, is_at_home, is_away, is_away_from, is_here, is_waiting, move_first, opened, opened_place, place_among, place_of_call, place_without_line, settled, stray, taken_up}
 use Rattle.otp_bodies.proofs.Keeping.{home_is_here, opened_place-here, place_among-here, waiting_is_here}
 
-abbrev one : Place → ℕ
+abbrev one : BodyPlace → ℕ
 one at = cond (is_here at) 1 0
 
 counted : (b : Kept) (bs : List Kept) → bodies_in (b ∷ bs) ≡ one b.place + bodies_in bs
@@ -25,7 +25,7 @@ put_count kept b here =
     omega (arith, e, sum_by-append (λ (x : Kept). one x.place) kept (b ∷ []), counted b [])
 
 -- the first that passes moves: away from here, or to here, or neither
-pub moved_count : (test : Kept → Bool) (to : Place) (from : Bool) (kept : List Kept) → ((b : Kept) → test b ≡ true → is_here b.place ≡ from) → list_any test kept ≡ true
+pub moved_count : (test : Kept → Bool) (to : BodyPlace) (from : Bool) (kept : List Kept) → ((b : Kept) → test b ≡ true → is_here b.place ≡ from) → list_any test kept ≡ true
     → bodies_in (move_first test to kept) + cond from 1 0 ≡ bodies_in kept + one to
 moved_count test to from [] was any = absurd (false≢true any)
 moved_count test to from (b ∷ bs) was any =
@@ -40,14 +40,14 @@ moved_count test to from (b ∷ bs) was any =
     omega (arith, n, counted b bs, counted b (move_first test to bs), moved_count test to from bs was rest))
     (cases_Bool (test b))
 
-away_gone : (slot : ℕ) (at : Place) → is_away_from slot at ≡ true → is_here at ≡ false
+away_gone : (slot : ℕ) (at : BodyPlace) → is_away_from slot at ≡ true → is_here at ≡ false
 away_gone slot (placed.Home k) h = absurd (false≢true h)
 away_gone slot placed.Waiting h = absurd (false≢true h)
 away_gone slot placed.Free h = absurd (false≢true h)
 away_gone slot (placed.Away k) h = refl
 
 without_line_here : (slot : ℕ) (kept : List Kept) → is_here (place_without_line slot kept) ≡ true
-without_line_here slot kept = cond_both (has_body slot kept) placed.Free (placed.Home slot) (λ (p : Place). is_here p ≡ true) (λ _. refl) (λ _. refl)
+without_line_here slot kept = cond_both (has_body slot kept) placed.Free (placed.Home slot) (λ (p : BodyPlace). is_here p ≡ true) (λ _. refl) (λ _. refl)
 
 pub came_count : (home : Option ℕ) (kept : List Kept) → bodies_in (came_for home kept) ≡ bodies_in kept + 1
 came_count None kept = put_count kept stray refl
@@ -66,7 +66,7 @@ call_here true slot = refl
 call_here false slot = free_here slot
 
 -- none passes, or the one that does stays here
-stays_count : (test : Kept → Bool) (to : Place) (kept : List Kept) → is_here to ≡ true → ((b : Kept) → test b ≡ true → is_here b.place ≡ true) → bodies_in (move_first test to kept) ≡ bodies_in kept
+stays_count : (test : Kept → Bool) (to : BodyPlace) (kept : List Kept) → is_here to ≡ true → ((b : Kept) → test b ≡ true → is_here b.place ≡ true) → bodies_in (move_first test to kept) ≡ bodies_in kept
 stays_count test to [] here was = refl
 stays_count test to (b ∷ bs) here was =
     cond_both (test b) (record b { place = to } ∷ bs) (b ∷ move_first test to bs) (λ (l : List Kept). bodies_in l ≡ bodies_in (b ∷ bs))

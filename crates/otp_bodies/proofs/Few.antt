@@ -4,7 +4,7 @@ use Rattle.std.specs.Prelude.{count_by, slice_set}
 use Rattle.std.proofs.lemmas.List.Sums.{sum_by-cons, sum_by-remove}
 use Rattle.otp_bodies.specs.Bodies.{put_home}
 use Rattle.otp_bodies.specs.declared.bodies.Kept.{Kept}
-use Rattle.otp_bodies.specs.declared.bodies.Place.TheVariants as placed
+use Rattle.otp_bodies.specs.declared.bodies.BodyPlace.TheVariants as placed
 use Rattle.otp_bodies.proofs.Keeping.{IsFirstAt, put_home-behind}
 
 -- 1 where the body passes, else 0

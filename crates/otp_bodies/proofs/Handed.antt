@@ -4,7 +4,7 @@ use Rattle.std.specs.Prelude.{◌==◌, false}
 use Rattle.std.proofs.lemmas.Bool.{ne_eqb}
 use Rattle.otp_bodies.specs.Bodies.{count_given, handed_in, is_spec}
 use Rattle.otp_bodies.specs.declared.bodies.Origin.TheVariants as origin
-use Rattle.otp_bodies.specs.declared.bodies.Place.TheVariants as place
+use Rattle.otp_bodies.specs.declared.bodies.BodyPlace.TheVariants as place
 use Rattle.otp_bodies.proofs.Once.{count_put}
 
 pub handed_more : (n : ℕ) → handed_in (n + 1) ≡ handed_in n ++ record { origin = origin.Spec n; place = place.Free } ∷ []

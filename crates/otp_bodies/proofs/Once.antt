@@ -10,8 +10,8 @@ use Rattle.otp_table.specs.Rows.{has_slot}
 use Rattle.otp_bodies.specs.declared.bodies.Kept.{Kept}
 use Rattle.otp_bodies.specs.declared.bodies.Origin.{Origin}
 use Rattle.otp_bodies.specs.declared.bodies.Origin.TheVariants as origin
-use Rattle.otp_bodies.specs.declared.bodies.Place.{Place}
-use Rattle.otp_bodies.specs.declared.bodies.Place.TheVariants as placed
+use Rattle.otp_bodies.specs.declared.bodies.BodyPlace.{BodyPlace}
+use Rattle.otp_bodies.specs.declared.bodies.BodyPlace.TheVariants as placed
 use Rattle.otp_bodies.specs.Bodies.{came_for, count_away, count_given, count_home, has_body, home_or_free, is_at_home, is_away, is_away_from, is_from, is_home_of, is_spec, is_waiting, move_first, opened, opened_place, place_among, place_without_line, settled, stray, taken_up, without_first}
 use Rattle.otp_bodies.proofs.Keeping.{or_false}
 use Rattle.otp_bodies.proofs.Placed.{none_away, none_counted, or_left, or_right, or_split}
@@ -21,7 +21,7 @@ abbrev pub both : ℕ → List Kept → ℕ
 both slot kept = count_home slot kept + count_away slot kept
 
 -- the same of one place
-abbrev pub there_or_away : ℕ → Place → ℕ
+abbrev pub there_or_away : ℕ → BodyPlace → ℕ
 there_or_away slot at = cond (is_home_of slot at) 1 0 + cond (is_away_from slot at) 1 0
 
 both_counted : (slot : ℕ) (b : Kept) (bs : List Kept) → both slot (b ∷ bs) ≡ there_or_away slot b.place + both slot bs
@@ -46,7 +46,7 @@ both_put slot kept b =
     )
 
 -- the first that passes moves to where it counts no more than before
-pub both_moved : (t : Kept → Bool) (to : Place) (slot : ℕ) (kept : List Kept) → ((b : Kept) → t b ≡ true → there_or_away slot to ≤ there_or_away slot b.place) → both slot (move_first t to kept) ≤ both slot kept
+pub both_moved : (t : Kept → Bool) (to : BodyPlace) (slot : ℕ) (kept : List Kept) → ((b : Kept) → t b ≡ true → there_or_away slot to ≤ there_or_away slot b.place) → both slot (move_first t to kept) ≤ both slot kept
 both_moved t to slot [] less = omega arith
 both_moved t to slot (b ∷ bs) less =
     cond_both (t b) (record b { place = to } ∷ bs) (b ∷ move_first t to bs) (λ (l : List Kept). both slot l ≤ both slot (b ∷ bs))
@@ -54,7 +54,7 @@ both_moved t to slot (b ∷ bs) less =
     (λ _. omega (arith, both_moved t to slot bs less, both_counted slot b bs, both_counted slot b (move_first t to bs)))
 
 -- or to any place
-pub both_once : (t : Kept → Bool) (to : Place) (slot : ℕ) (kept : List Kept) → there_or_away slot to ≤ 1 → both slot (move_first t to kept) ≤ both slot kept + 1
+pub both_once : (t : Kept → Bool) (to : BodyPlace) (slot : ℕ) (kept : List Kept) → there_or_away slot to ≤ 1 → both slot (move_first t to kept) ≤ both slot kept + 1
 both_once t to slot [] few = omega arith
 both_once t to slot (b ∷ bs) few =
     cond_both (t b) (record b { place = to } ∷ bs) (b ∷ move_first t to bs) (λ (l : List Kept). both slot l ≤ both slot (b ∷ bs) + 1)
@@ -74,13 +74,13 @@ both_mapped slot f (b ∷ bs) less = omega (arith, less b, both_mapped slot f bs
 
 -- a child's body goes from its home, or comes home: it is one body before and after
 
-away_counts : (k slot : ℕ) (at : Place) → is_home_of k at ≡ true → there_or_away slot (placed.Away k) ≤ there_or_away slot at
+away_counts : (k slot : ℕ) (at : BodyPlace) → is_home_of k at ≡ true → there_or_away slot (placed.Away k) ≤ there_or_away slot at
 away_counts k slot (placed.Home j) h = let e = counted_if (j == slot) (k == slot) (ap (λ (n : ℕ). n == slot) (eqb-true j k h)) in omega (arith, e)
 away_counts k slot placed.Waiting h = absurd (false≢true h)
 away_counts k slot placed.Free h = absurd (false≢true h)
 away_counts k slot (placed.Away j) h = absurd (false≢true h)
 
-home_counts : (k slot : ℕ) (at : Place) → is_away_from k at ≡ true → there_or_away slot (placed.Home k) ≤ there_or_away slot at
+home_counts : (k slot : ℕ) (at : BodyPlace) → is_away_from k at ≡ true → there_or_away slot (placed.Home k) ≤ there_or_away slot at
 home_counts k slot (placed.Home j) h = absurd (false≢true h)
 home_counts k slot placed.Waiting h = absurd (false≢true h)
 home_counts k slot placed.Free h = absurd (false≢true h)
@@ -116,7 +116,7 @@ none_more (suc n) never = absurd (never (omega arith))
 
 without_line_few : (slot k : ℕ) (kept : List Kept) → list_any (is_away k) kept ≡ false → both slot kept ≤ 1 → both slot kept + there_or_away slot (place_without_line k kept) ≤ 1
 without_line_few slot k kept none few =
-    cond_both (has_body k kept) placed.Free (placed.Home k) (λ (p : Place). both slot kept + there_or_away slot p ≤ 1)
+    cond_both (has_body k kept) placed.Free (placed.Home k) (λ (p : BodyPlace). both slot kept + there_or_away slot p ≤ 1)
     (λ _. omega (arith, few))
     (λ bare. ⊎_elim
     (λ (is : (k == slot) ≡ true).
@@ -134,9 +134,9 @@ came_few slot (Some k) kept few =
     (λ _. omega (arith, few, both_moved (is_away k) (placed.Home k) slot kept (λ x away. home_counts k slot x.place away)))
     (λ none. omega (arith, without_line_few slot k kept none few, both_put slot kept b))
 
-among_counts : (slot : ℕ) (rows : List Row) (any : Bool) (at : Place) → there_or_away slot (place_among rows any at) ≤ there_or_away slot at
-among_counts slot rows any (placed.Home k) = cond_both (list_any (has_slot k) rows) (placed.Home k) placed.Free (λ (p : Place). there_or_away slot p ≤ there_or_away slot (placed.Home k)) (λ _. omega arith) (λ _. omega arith)
-among_counts slot rows any placed.Waiting = cond_both any placed.Waiting placed.Free (λ (p : Place). there_or_away slot p ≤ there_or_away slot placed.Waiting) (λ _. omega arith) (λ _. omega arith)
+among_counts : (slot : ℕ) (rows : List Row) (any : Bool) (at : BodyPlace) → there_or_away slot (place_among rows any at) ≤ there_or_away slot at
+among_counts slot rows any (placed.Home k) = cond_both (list_any (has_slot k) rows) (placed.Home k) placed.Free (λ (p : BodyPlace). there_or_away slot p ≤ there_or_away slot (placed.Home k)) (λ _. omega arith) (λ _. omega arith)
+among_counts slot rows any placed.Waiting = cond_both any placed.Waiting placed.Free (λ (p : BodyPlace). there_or_away slot p ≤ there_or_away slot placed.Waiting) (λ _. omega arith) (λ _. omega arith)
 among_counts slot rows any placed.Free = omega arith
 among_counts slot rows any (placed.Away k) = omega arith
 
@@ -146,9 +146,9 @@ both_settled slot rows any kept = both_mapped slot (λ (b : Kept). record b { pl
 -- at an opening, where none is away, each child has at most the bodies that were handed in for its specification
 
 spec_counts : (slot k : ℕ) (rows : List Row) → there_or_away slot (if list_any (has_slot k) rows then placed.Home k else placed.Free) ≤ cond (k == slot) 1 0
-spec_counts slot k rows = cond_both (list_any (has_slot k) rows) (placed.Home k) placed.Free (λ (p : Place). there_or_away slot p ≤ cond (k == slot) 1 0) (λ _. omega arith) (λ _. omega arith)
+spec_counts slot k rows = cond_both (list_any (has_slot k) rows) (placed.Home k) placed.Free (λ (p : BodyPlace). there_or_away slot p ≤ cond (k == slot) 1 0) (λ _. omega arith) (λ _. omega arith)
 
-opened_counts : (slot : ℕ) (rows : List Row) (any : Bool) (o : Origin) (at : Place) → ((j : ℕ) → is_away_from j at ≡ false) → there_or_away slot (opened_place rows o (place_among [] any at)) ≤ cond (is_spec slot o) 1 0
+opened_counts : (slot : ℕ) (rows : List Row) (any : Bool) (o : Origin) (at : BodyPlace) → ((j : ℕ) → is_away_from j at ≡ false) → there_or_away slot (opened_place rows o (place_among [] any at)) ≤ cond (is_spec slot o) 1 0
 opened_counts slot rows any (origin.Spec k) (placed.Home j) none = spec_counts slot k rows
 opened_counts slot rows true (origin.Spec k) placed.Waiting none = omega arith
 opened_counts slot rows false (origin.Spec k) placed.Waiting none = spec_counts slot k rows
@@ -177,7 +177,7 @@ both_opened slot rows any (b ∷ bs) none =
 
 -- a body at home is that of a child that there is
 
-among_row : (slot : ℕ) (rows : List Row) (any : Bool) (at : Place) → is_home_of slot (place_among rows any at) ≡ true → list_any (has_slot slot) rows ≡ true
+among_row : (slot : ℕ) (rows : List Row) (any : Bool) (at : BodyPlace) → is_home_of slot (place_among rows any at) ≡ true → list_any (has_slot slot) rows ≡ true
 among_row slot rows any (placed.Home k) h = by (list_any (has_slot k) rows) refl
   where
     by : (b : Bool) → list_any (has_slot k) rows ≡ b → list_any (has_slot slot) rows ≡ true
@@ -195,14 +195,14 @@ home_has_row slot rows any (b ∷ bs) h =
     (λ here. among_row slot rows any b.place here) (λ rest. home_has_row slot rows any bs rest)
 
 -- a place that no row has is no home
-none_among : (slot : ℕ) (any : Bool) (at : Place) → is_home_of slot (place_among [] any at) ≡ false
+none_among : (slot : ℕ) (any : Bool) (at : BodyPlace) → is_home_of slot (place_among [] any at) ≡ false
 none_among slot any at = isnt (is_home_of slot (place_among [] any at)) (λ h. false≢true (among_row slot [] any at h))
 
 -- at an opening as where all are settled
 free_row : (slot k : ℕ) (rows : List Row) → is_home_of slot (if list_any (has_slot k) rows then placed.Home k else placed.Free) ≡ true → list_any (has_slot slot) rows ≡ true
 free_row slot k rows h = among_row slot rows true (placed.Home k) h
 
-opened_row : (slot : ℕ) (rows : List Row) (o : Origin) (at : Place) → is_home_of slot at ≡ false → is_home_of slot (opened_place rows o at) ≡ true → list_any (has_slot slot) rows ≡ true
+opened_row : (slot : ℕ) (rows : List Row) (o : Origin) (at : BodyPlace) → is_home_of slot at ≡ false → is_home_of slot (opened_place rows o at) ≡ true → list_any (has_slot slot) rows ≡ true
 opened_row slot rows (origin.Spec k) (placed.Home j) none h = absurd (false≢true (sym none ∙ h))
 opened_row slot rows (origin.Spec k) placed.Waiting none h = absurd (false≢true h)
 opened_row slot rows (origin.Spec k) placed.Free none h = free_row slot k rows h
@@ -217,7 +217,7 @@ opened_has_row slot rows any (b ∷ bs) h =
     (λ here. opened_row slot rows b.origin (place_among [] any b.place) (none_among slot any b.place) here) (λ rest. opened_has_row slot rows any bs rest)
 
 -- what passes after the first that passes another test moved did so before, if what moved doesn't pass
-pub any_unmoved : (t u : Kept → Bool) (to : Place) (kept : List Kept) → ((b : Kept) → u (record b { place = to }) ≡ false) → list_any u (move_first t to kept) ≡ true → list_any u kept ≡ true
+pub any_unmoved : (t u : Kept → Bool) (to : BodyPlace) (kept : List Kept) → ((b : Kept) → u (record b { place = to }) ≡ false) → list_any u (move_first t to kept) ≡ true → list_any u kept ≡ true
 any_unmoved t u to [] other h = h
 any_unmoved t u to (b ∷ bs) other h = by (t b) refl (any_unmoved t u to bs other)
   where
@@ -247,7 +247,7 @@ given_counted k b bs = sum_by-cons (λ (x : Kept). cond (is_from k x) 1 0) b bs
 pub count_put : (k : ℕ) (kept : List Kept) (b : Kept) → count_given k (kept ++ b ∷ []) ≡ count_given k kept + cond (is_spec k b.origin) 1 0
 count_put k kept b = omega (arith, sum_by-append (λ (x : Kept). cond (is_from k x) 1 0) kept (b ∷ []), given_counted k b [])
 
-pub count_moved : (k : ℕ) (t : Kept → Bool) (to : Place) (kept : List Kept) → count_given k (move_first t to kept) ≡ count_given k kept
+pub count_moved : (k : ℕ) (t : Kept → Bool) (to : BodyPlace) (kept : List Kept) → count_given k (move_first t to kept) ≡ count_given k kept
 count_moved k t to [] = refl
 count_moved k t to (b ∷ bs) =
     cond_both (t b) (record b { place = to } ∷ bs) (b ∷ move_first t to bs) (λ (l : List Kept). count_given k l ≡ count_given k (b ∷ bs))

@@ -10,8 +10,8 @@ use Rattle.otp_table.specs.declared.row.Row.{Row}
 use Rattle.otp_bodies.specs.Bodies.{is_at_home, is_home_of, place_among, settled, stray}
 use Rattle.otp_bodies.specs.Loose.{IsOnlyLoose, count_loose, is_loose, is_loose_place, loose_at}
 use Rattle.otp_bodies.specs.declared.bodies.Kept.{Kept}
-use Rattle.otp_bodies.specs.declared.bodies.Place.{Place}
-use Rattle.otp_bodies.specs.declared.bodies.Place.TheVariants as placed
+use Rattle.otp_bodies.specs.declared.bodies.BodyPlace.{BodyPlace}
+use Rattle.otp_bodies.specs.declared.bodies.BodyPlace.TheVariants as placed
 use Rattle.otp_bodies.proofs.Few.{at_least, counted, none_is, one, others}
 use Rattle.otp_bodies.proofs.Keeping.{IsFirstAt, or_false}
 
@@ -23,7 +23,7 @@ past (x ∷ xs) zero h = absurd (omega (arith, h))
 past (x ∷ xs) (suc i) h = past xs i (omega (arith, h))
 
 -- one that isn't loose stays where it is
-stays : (rows : List Row) (any : Bool) (at : Place) → is_loose_place at ≡ false → place_among rows any at ≡ at
+stays : (rows : List Row) (any : Bool) (at : BodyPlace) → is_loose_place at ≡ false → place_among rows any at ≡ at
 stays rows any (placed.Home k) h = absurd (false≢true (sym h))
 stays rows any placed.Waiting h = absurd (false≢true (sym h))
 stays rows any placed.Free h = refl
@@ -31,7 +31,7 @@ stays rows any (placed.Away k) h = refl
 
 pub same_head : (rows : List Row) (any : Bool) (b : Kept) (bs : List Kept) → place_among rows any b.place ≡ b.place → settled rows any bs ≡ bs → settled rows any (b ∷ bs) ≡ b ∷ bs
 same_head rows any b bs head tail =
-    ap (λ (p : Place). record b { place = p } ∷ settled rows any bs) head ∙ ap (λ (l : List Kept). b ∷ l) tail
+    ap (λ (p : BodyPlace). record b { place = p } ∷ settled rows any bs) head ∙ ap (λ (l : List Kept). b ∷ l) tail
 
 none_settled : (rows : List Row) (any : Bool) (xs : List Kept) → count_loose xs ≤ 0 → settled rows any xs ≡ xs
 none_settled rows any [] few = refl
@@ -51,7 +51,7 @@ one_settled rows any (b ∷ bs) (suc i) d within few here =
     let least = at_least is_loose bs i d inner in
     same_head rows any b bs (stays rows any b.place (none_is (is_loose b) (omega (arith, few, e, least)))) (one_settled rows any bs i d inner (omega (arith, few, e)) here)
 
-home_is_loose : (slot : ℕ) (at : Place) → is_home_of slot at ≡ true → is_loose_place at ≡ true
+home_is_loose : (slot : ℕ) (at : BodyPlace) → is_home_of slot at ≡ true → is_loose_place at ≡ true
 home_is_loose slot (placed.Home k) h = refl
 home_is_loose slot placed.Waiting h = refl
 home_is_loose slot placed.Free h = absurd (false≢true h)

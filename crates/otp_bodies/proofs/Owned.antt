@@ -9,8 +9,8 @@ use Rattle.otp_table.specs.Rows.{has_slot}
 use Rattle.otp_bodies.specs.declared.bodies.Kept.{Kept}
 use Rattle.otp_bodies.specs.declared.bodies.Origin.{Origin}
 use Rattle.otp_bodies.specs.declared.bodies.Origin.TheVariants as origin
-use Rattle.otp_bodies.specs.declared.bodies.Place.{Place}
-use Rattle.otp_bodies.specs.declared.bodies.Place.TheVariants as placed
+use Rattle.otp_bodies.specs.declared.bodies.BodyPlace.{BodyPlace}
+use Rattle.otp_bodies.specs.declared.bodies.BodyPlace.TheVariants as placed
 use Rattle.otp_bodies.specs.Bodies.{calls_waiting, came_for, has_body, home_or_free, is_at_home, is_away, is_away_from, is_home_of, is_out, is_own, is_own_place, is_waiting, is_waiting_place, move_first, opened_place, place_among, place_without_line, settled, stray, taken_up, waiting_as, waiting_call, without_first}
 use Rattle.otp_bodies.specs.Loose.{is_with_call}
 use Rattle.otp_bodies.proofs.Keeping.{or_false}
@@ -19,7 +19,7 @@ use Rattle.otp_bodies.proofs.Once.{isnt}
 abbrev pub AreOwn : List Kept → Type 0
 AreOwn kept = All (λ (b : Kept). is_own b ≡ true) kept
 
-moved_own : (t : Kept → Bool) (to : Place) (kept : List Kept) → ((b : Kept) → t b ≡ true → is_own b ≡ true → is_own_place b.origin to ≡ true) → AreOwn kept → AreOwn (move_first t to kept)
+moved_own : (t : Kept → Bool) (to : BodyPlace) (kept : List Kept) → ((b : Kept) → t b ≡ true → is_own b ≡ true → is_own_place b.origin to ≡ true) → AreOwn kept → AreOwn (move_first t to kept)
 moved_own t to [] stays own = own
 moved_own t to (b ∷ bs) stays own =
     let first : is_own b ≡ true = All-head (λ (x : Kept). is_own x ≡ true) b bs own in
@@ -40,7 +40,7 @@ mapped_own f kept stays own = All-map (λ (x : Kept). is_own x ≡ true) f kept 
 
 -- a child's body stays its child's
 
-leaves_own : (k : ℕ) (o : Origin) (at : Place) → is_home_of k at ≡ true → is_own_place o at ≡ true → is_own_place o (placed.Away k) ≡ true
+leaves_own : (k : ℕ) (o : Origin) (at : BodyPlace) → is_home_of k at ≡ true → is_own_place o at ≡ true → is_own_place o (placed.Away k) ≡ true
 leaves_own k (origin.Spec j) (placed.Home i) h own = ap (λ (n : ℕ). j == n) (sym (eqb-true i k h)) ∙ own
 leaves_own k (origin.Spec j) placed.Waiting h own = absurd (false≢true h)
 leaves_own k (origin.Spec j) placed.Free h own = absurd (false≢true h)
@@ -48,7 +48,7 @@ leaves_own k (origin.Spec j) (placed.Away i) h own = absurd (false≢true h)
 leaves_own k (origin.Call c) at h own = refl
 leaves_own k origin.Nobody at h own = refl
 
-comes_own : (k : ℕ) (o : Origin) (at : Place) → is_away_from k at ≡ true → is_own_place o at ≡ true → is_own_place o (placed.Home k) ≡ true
+comes_own : (k : ℕ) (o : Origin) (at : BodyPlace) → is_away_from k at ≡ true → is_own_place o at ≡ true → is_own_place o (placed.Home k) ≡ true
 comes_own k (origin.Spec j) (placed.Home i) h own = absurd (false≢true h)
 comes_own k (origin.Spec j) placed.Waiting h own = absurd (false≢true h)
 comes_own k (origin.Spec j) placed.Free h own = absurd (false≢true h)
@@ -57,7 +57,7 @@ comes_own k (origin.Call c) at h own = refl
 comes_own k origin.Nobody at h own = refl
 
 -- a body that waits is a call's
-waits_own : (to : Place) (o : Origin) (at : Place) → is_some (waiting_as o at) ≡ true → is_own_place o to ≡ true
+waits_own : (to : BodyPlace) (o : Origin) (at : BodyPlace) → is_some (waiting_as o at) ≡ true → is_own_place o to ≡ true
 waits_own to (origin.Spec j) at h = absurd (false≢true h)
 waits_own to (origin.Call c) at h = refl
 waits_own to origin.Nobody at h = absurd (false≢true h)
@@ -74,27 +74,27 @@ came_own (Some k) kept own =
     let b : Kept = record { origin = origin.Nobody; place = place_without_line k kept } in
     cond_both (list_any (is_away k) kept) (move_first (is_away k) (placed.Home k) kept) (kept ++ b ∷ []) AreOwn
     (λ _. moved_own (is_away k) (placed.Home k) kept (λ x away is. comes_own k x.origin x.place away is) own)
-    (λ _. put_own kept b (cond_both (has_body k kept) placed.Free (placed.Home k) (λ (p : Place). is_own_place origin.Nobody p ≡ true) (λ _. refl) (λ _. refl)) own)
+    (λ _. put_own kept b (cond_both (has_body k kept) placed.Free (placed.Home k) (λ (p : BodyPlace). is_own_place origin.Nobody p ≡ true) (λ _. refl) (λ _. refl)) own)
 
 pub up_own : (is : Bool) (slot : Option ℕ) (kept : List Kept) → AreOwn kept → AreOwn (taken_up is slot kept)
 up_own true slot kept own = moved_own is_waiting (home_or_free slot) kept (λ b waits _. waits_own (home_or_free slot) b.origin b.place waits) own
 up_own false slot kept own = own
 
-among_own : (rows : List Row) (any : Bool) (o : Origin) (at : Place) → is_own_place o at ≡ true → is_own_place o (place_among rows any at) ≡ true
-among_own rows any (origin.Spec j) (placed.Home k) own = cond_both (list_any (has_slot k) rows) (placed.Home k) placed.Free (λ (p : Place). is_own_place (origin.Spec j) p ≡ true) (λ _. own) (λ _. refl)
+among_own : (rows : List Row) (any : Bool) (o : Origin) (at : BodyPlace) → is_own_place o at ≡ true → is_own_place o (place_among rows any at) ≡ true
+among_own rows any (origin.Spec j) (placed.Home k) own = cond_both (list_any (has_slot k) rows) (placed.Home k) placed.Free (λ (p : BodyPlace). is_own_place (origin.Spec j) p ≡ true) (λ _. own) (λ _. refl)
 among_own rows any (origin.Spec j) placed.Waiting own = absurd (false≢true own)
 among_own rows any (origin.Spec j) placed.Free own = refl
 among_own rows any (origin.Spec j) (placed.Away k) own = own
 among_own rows any (origin.Call c) at own = refl
-among_own rows any origin.Nobody (placed.Home k) own = cond_both (list_any (has_slot k) rows) (placed.Home k) placed.Free (λ (p : Place). is_own_place origin.Nobody p ≡ true) (λ _. refl) (λ _. refl)
+among_own rows any origin.Nobody (placed.Home k) own = cond_both (list_any (has_slot k) rows) (placed.Home k) placed.Free (λ (p : BodyPlace). is_own_place origin.Nobody p ≡ true) (λ _. refl) (λ _. refl)
 among_own rows any origin.Nobody placed.Waiting own = absurd (false≢true own)
 among_own rows any origin.Nobody placed.Free own = refl
 among_own rows any origin.Nobody (placed.Away k) own = refl
 
-pub opened_own : (rows : List Row) (o : Origin) (at : Place) → is_own_place o at ≡ true → is_own_place o (opened_place rows o at) ≡ true
+pub opened_own : (rows : List Row) (o : Origin) (at : BodyPlace) → is_own_place o at ≡ true → is_own_place o (opened_place rows o at) ≡ true
 opened_own rows (origin.Spec j) (placed.Home k) own = own
 opened_own rows (origin.Spec j) placed.Waiting own = absurd (false≢true own)
-opened_own rows (origin.Spec j) placed.Free own = cond_both (list_any (has_slot j) rows) (placed.Home j) placed.Free (λ (p : Place). is_own_place (origin.Spec j) p ≡ true) (λ _. eq-eqb j j refl) (λ _. refl)
+opened_own rows (origin.Spec j) placed.Free own = cond_both (list_any (has_slot j) rows) (placed.Home j) placed.Free (λ (p : BodyPlace). is_own_place (origin.Spec j) p ≡ true) (λ _. eq-eqb j j refl) (λ _. refl)
 opened_own rows (origin.Spec j) (placed.Away k) own = own
 opened_own rows (origin.Call c) at own = refl
 opened_own rows origin.Nobody at own = own
@@ -103,7 +103,7 @@ pub settled_own : (rows : List Row) (any : Bool) (kept : List Kept) → AreOwn k
 settled_own rows any kept own = mapped_own (λ (b : Kept). record b { place = place_among rows any b.place }) kept (λ b is. among_own rows any b.origin b.place is) own
 
 -- and at first, where none is away and none waits
-first_place : (o : Origin) (at : Place) → Rattle.std.specs.Prelude.not (Rattle.otp_bodies.specs.Bodies.is_here at) ≡ false → is_own_place o (place_among [] false at) ≡ true
+first_place : (o : Origin) (at : BodyPlace) → Rattle.std.specs.Prelude.not (Rattle.otp_bodies.specs.Bodies.is_here at) ≡ false → is_own_place o (place_among [] false at) ≡ true
 first_place (origin.Spec j) (placed.Home k) near = refl
 first_place (origin.Spec j) placed.Waiting near = refl
 first_place (origin.Spec j) placed.Free near = refl
@@ -122,7 +122,7 @@ first_own (b ∷ bs) near =
 
 -- where no call's body waits, none does
 
-with_call : (o : Origin) (at : Place) → is_own_place o at ≡ true → is_waiting_place at ≡ true → is_some (waiting_as o at) ≡ true
+with_call : (o : Origin) (at : BodyPlace) → is_own_place o at ≡ true → is_waiting_place at ≡ true → is_some (waiting_as o at) ≡ true
 with_call o (placed.Home k) own waits = absurd (false≢true waits)
 with_call o placed.Free own waits = absurd (false≢true waits)
 with_call o (placed.Away k) own waits = absurd (false≢true waits)

@@ -11,8 +11,8 @@ use Rattle.otp_table.specs.Rows.{has_slot}
 use Rattle.otp_bodies.specs.declared.bodies.Kept.{Kept}
 use Rattle.otp_bodies.specs.declared.bodies.Origin.{Origin}
 use Rattle.otp_bodies.specs.declared.bodies.Origin.TheVariants as origin
-use Rattle.otp_bodies.specs.declared.bodies.Place.{Place}
-use Rattle.otp_bodies.specs.declared.bodies.Place.TheVariants as placed
+use Rattle.otp_bodies.specs.declared.bodies.BodyPlace.{BodyPlace}
+use Rattle.otp_bodies.specs.declared.bodies.BodyPlace.TheVariants as placed
 use Rattle.otp_bodies.specs.Bodies.{are_given, calls_waiting, come_home, count_away, has_body, is_at_home, is_away, is_away_from, is_given, is_home_of, is_spec, is_waiting, is_waiting_place, move_first, opened, opened_place, place_among, place_without_line, settled, waiting_as, waiting_call, without_first}
 use Rattle.otp_bodies.proofs.Keeping.{or_false}
 
@@ -35,7 +35,7 @@ pub any_last : (u : Kept → Bool) (xs : List Kept) (b : Kept) → u b ≡ true 
 any_last u xs b h = list_any-append u xs (b ∷ []) ∙ or_right (list_any u xs) (u b || false) (or_left (u b) false h)
 
 -- what passes another test still does once the first that passes this one moved, if that doesn't depend on the move
-pub any_moved : (t u : Kept → Bool) (to : Place) (kept : List Kept) → ((b : Kept) → t b ≡ true → u b ≡ true → u (record b { place = to }) ≡ true) → list_any u kept ≡ true → list_any u (move_first t to kept) ≡ true
+pub any_moved : (t u : Kept → Bool) (to : BodyPlace) (kept : List Kept) → ((b : Kept) → t b ≡ true → u b ≡ true → u (record b { place = to }) ≡ true) → list_any u kept ≡ true → list_any u (move_first t to kept) ≡ true
 any_moved t u to [] keeps h = h
 any_moved t u to (b ∷ bs) keeps h =
     cond_both (t b) (record b { place = to } ∷ bs) (b ∷ move_first t to bs) (λ (l : List Kept). list_any u l ≡ true)
@@ -43,7 +43,7 @@ any_moved t u to (b ∷ bs) keeps h =
     (λ _. or_split (u b) (list_any u bs) (list_any u (b ∷ move_first t to bs) ≡ true) h (λ here. or_left (u b) (list_any u (move_first t to bs)) here) (λ rest. or_right (u b) (list_any u (move_first t to bs)) (any_moved t u to bs keeps rest)))
 
 -- what moved passes the other test
-pub any_to : (t u : Kept → Bool) (to : Place) (kept : List Kept) → ((b : Kept) → t b ≡ true → u (record b { place = to }) ≡ true) → list_any t kept ≡ true → list_any u (move_first t to kept) ≡ true
+pub any_to : (t u : Kept → Bool) (to : BodyPlace) (kept : List Kept) → ((b : Kept) → t b ≡ true → u (record b { place = to }) ≡ true) → list_any t kept ≡ true → list_any u (move_first t to kept) ≡ true
 any_to t u to [] there h = absurd (false≢true h)
 any_to t u to (b ∷ bs) there h =
     cond_both (t b) (record b { place = to } ∷ bs) (b ∷ move_first t to bs) (λ (l : List Kept). list_any u l ≡ true)
@@ -64,13 +64,13 @@ any_left t u (b ∷ bs) other h =
 
 -- a body in one place isn't in another
 
-away_or_home : (k slot : ℕ) (at : Place) → is_away_from k at ≡ true → is_home_of slot at ≡ true → ⊥
+away_or_home : (k slot : ℕ) (at : BodyPlace) → is_away_from k at ≡ true → is_home_of slot at ≡ true → ⊥
 away_or_home k slot (placed.Home j) a h = false≢true a
 away_or_home k slot placed.Waiting a h = false≢true a
 away_or_home k slot placed.Free a h = false≢true a
 away_or_home k slot (placed.Away j) a h = false≢true h
 
-waits_there : (o : Origin) (at : Place) → is_some (waiting_as o at) ≡ true → at ≡ placed.Waiting
+waits_there : (o : Origin) (at : BodyPlace) → is_some (waiting_as o at) ≡ true → at ≡ placed.Waiting
 waits_there (origin.Spec k) at w = absurd (false≢true w)
 waits_there origin.Nobody at w = absurd (false≢true w)
 waits_there (origin.Call c) (placed.Home j) w = absurd (false≢true w)
@@ -78,13 +78,13 @@ waits_there (origin.Call c) placed.Waiting w = refl
 waits_there (origin.Call c) placed.Free w = absurd (false≢true w)
 waits_there (origin.Call c) (placed.Away j) w = absurd (false≢true w)
 
-waiting_or_home : (slot : ℕ) (o : Origin) (at : Place) → is_some (waiting_as o at) ≡ true → is_home_of slot at ≡ true → ⊥
-waiting_or_home slot o at w h = false≢true (sym (ap (λ (p : Place). is_home_of slot p) (waits_there o at w)) ∙ h)
+waiting_or_home : (slot : ℕ) (o : Origin) (at : BodyPlace) → is_some (waiting_as o at) ≡ true → is_home_of slot at ≡ true → ⊥
+waiting_or_home slot o at w h = false≢true (sym (ap (λ (p : BodyPlace). is_home_of slot p) (waits_there o at w)) ∙ h)
 
-waiting_or_away : (slot : ℕ) (o : Origin) (at : Place) → is_some (waiting_as o at) ≡ true → is_away_from slot at ≡ true → ⊥
-waiting_or_away slot o at w h = false≢true (sym (ap (λ (p : Place). is_away_from slot p) (waits_there o at w)) ∙ h)
+waiting_or_away : (slot : ℕ) (o : Origin) (at : BodyPlace) → is_some (waiting_as o at) ≡ true → is_away_from slot at ≡ true → ⊥
+waiting_or_away slot o at w h = false≢true (sym (ap (λ (p : BodyPlace). is_away_from slot p) (waits_there o at w)) ∙ h)
 
-home_once : (k slot : ℕ) (at : Place) → is_home_of k at ≡ true → is_home_of slot at ≡ true → k ≡ slot
+home_once : (k slot : ℕ) (at : BodyPlace) → is_home_of k at ≡ true → is_home_of slot at ≡ true → k ≡ slot
 home_once k slot (placed.Home j) a h = sym (eqb-true j k a) ∙ eqb-true j slot h
 home_once k slot placed.Waiting a h = absurd (false≢true a)
 home_once k slot placed.Free a h = absurd (false≢true a)
@@ -98,7 +98,7 @@ same_number n = eq-eqb n n refl
 pub stays_when_home : (k slot : ℕ) (kept : List Kept) → has_body slot kept ≡ true → has_body slot (move_first (is_away k) (placed.Home k) kept) ≡ true
 stays_when_home k slot kept h = any_moved (is_away k) (is_at_home slot) (placed.Home k) kept (λ b a home. absurd (away_or_home k slot b.place a home)) h
 
-pub stays_when_up : (to : Place) (slot : ℕ) (kept : List Kept) → has_body slot kept ≡ true → has_body slot (move_first is_waiting to kept) ≡ true
+pub stays_when_up : (to : BodyPlace) (slot : ℕ) (kept : List Kept) → has_body slot kept ≡ true → has_body slot (move_first is_waiting to kept) ≡ true
 stays_when_up to slot kept h = any_moved is_waiting (is_at_home slot) to kept (λ b w home. absurd (waiting_or_home slot b.origin b.place w home)) h
 
 pub stays_when_left : (k slot : ℕ) (kept : List Kept) → (k ≡ slot → ⊥) → has_body slot kept ≡ true → has_body slot (move_first (is_at_home k) (placed.Away k) kept) ≡ true
@@ -122,7 +122,7 @@ comes_home slot kept =
         any_last (is_at_home slot) kept (record { origin = origin.Nobody; place = place_without_line slot kept })
         (ap (λ (b : Bool). is_home_of slot (if b then placed.Free else placed.Home slot)) h ∙ same_number slot)
 
-among_home : (slot : ℕ) (rows : List Row) (any : Bool) (at : Place) → list_any (has_slot slot) rows ≡ true → is_home_of slot at ≡ true → is_home_of slot (place_among rows any at) ≡ true
+among_home : (slot : ℕ) (rows : List Row) (any : Bool) (at : BodyPlace) → list_any (has_slot slot) rows ≡ true → is_home_of slot at ≡ true → is_home_of slot (place_among rows any at) ≡ true
 among_home slot rows any (placed.Home k) row h =
     let is : k ≡ slot = eqb-true k slot h in
     ap (λ (b : Bool). is_home_of slot (if b then placed.Home k else placed.Free)) (ap (λ (n : ℕ). list_any (has_slot n) rows) is ∙ row) ∙ h
@@ -146,7 +146,7 @@ pub away_put : (slot : ℕ) (kept : List Kept) (b : Kept) → is_away slot b ≡
 away_put slot kept b h = omega (arith, no_count slot b h, counted_away slot b [], sum_by-append (λ (x : Kept). cond (is_away slot x) 1 0) kept (b ∷ []))
 
 -- a body that moves is away no more
-pub away_moved : (t : Kept → Bool) (slot : ℕ) (to : Place) (kept : List Kept) → is_away_from slot to ≡ false → count_away slot (move_first t to kept) ≤ count_away slot kept
+pub away_moved : (t : Kept → Bool) (slot : ℕ) (to : BodyPlace) (kept : List Kept) → is_away_from slot to ≡ false → count_away slot (move_first t to kept) ≤ count_away slot kept
 away_moved t slot to [] h = omega arith
 away_moved t slot to (b ∷ bs) h =
     cond_both (t b) (record b { place = to } ∷ bs) (b ∷ move_first t to bs) (λ (l : List Kept). count_away slot l ≤ count_away slot (b ∷ bs))
@@ -160,7 +160,7 @@ none_away slot (b ∷ bs) h =
     omega (arith, no_count slot b parts.0, counted_away slot b bs, none_away slot bs parts.1)
 
 -- one of them comes
-away_came : (slot : ℕ) (to : Place) (kept : List Kept) → is_away_from slot to ≡ false → list_any (is_away slot) kept ≡ true → count_away slot (move_first (is_away slot) to kept) + 1 ≡ count_away slot kept
+away_came : (slot : ℕ) (to : BodyPlace) (kept : List Kept) → is_away_from slot to ≡ false → list_any (is_away slot) kept ≡ true → count_away slot (move_first (is_away slot) to kept) + 1 ≡ count_away slot kept
 away_came slot to [] h any = absurd (false≢true any)
 away_came slot to (b ∷ bs) h any =
     cond_both (is_away slot b) (record b { place = to } ∷ bs) (b ∷ move_first (is_away slot) to bs) (λ (l : List Kept). count_away slot l + 1 ≡ count_away slot (b ∷ bs))
@@ -168,7 +168,7 @@ away_came slot to (b ∷ bs) h any =
     (λ isnt. omega (arith, away_came slot to bs h (sym (ap (λ (x : Bool). x || list_any (is_away slot) bs) isnt) ∙ any), counted_away slot b bs, counted_away slot b (move_first (is_away slot) to bs)))
 
 without_line_near : (slot k : ℕ) (kept : List Kept) → is_away_from slot (place_without_line k kept) ≡ false
-without_line_near slot k kept = cond_both (has_body k kept) placed.Free (placed.Home k) (λ (p : Place). is_away_from slot p ≡ false) (λ _. refl) (λ _. refl)
+without_line_near slot k kept = cond_both (has_body k kept) placed.Free (placed.Home k) (λ (p : BodyPlace). is_away_from slot p ≡ false) (λ _. refl) (λ _. refl)
 
 pub away_less : (slot k : ℕ) (kept : List Kept) → count_away slot (come_home k kept) ≤ count_away slot kept
 away_less slot k kept =
@@ -191,19 +191,19 @@ away_mapped slot f (b ∷ bs) same =
     let e : ◌≡◌ {A = ℕ} (cond (is_away slot (f b)) 1 0) (cond (is_away slot b) 1 0) = ap (λ (x : Bool). cond x 1 0) (same b) in
     omega (arith, e, counted_away slot b bs, counted_away slot (f b) (map f bs), away_mapped slot f bs same)
 
-among_away : (slot : ℕ) (rows : List Row) (any : Bool) (at : Place) → is_away_from slot (place_among rows any at) ≡ is_away_from slot at
-among_away slot rows any (placed.Home k) = cond_both (list_any (has_slot k) rows) (placed.Home k) placed.Free (λ (p : Place). is_away_from slot p ≡ false) (λ _. refl) (λ _. refl)
-among_away slot rows any placed.Waiting = cond_both any placed.Waiting placed.Free (λ (p : Place). is_away_from slot p ≡ false) (λ _. refl) (λ _. refl)
+among_away : (slot : ℕ) (rows : List Row) (any : Bool) (at : BodyPlace) → is_away_from slot (place_among rows any at) ≡ is_away_from slot at
+among_away slot rows any (placed.Home k) = cond_both (list_any (has_slot k) rows) (placed.Home k) placed.Free (λ (p : BodyPlace). is_away_from slot p ≡ false) (λ _. refl) (λ _. refl)
+among_away slot rows any placed.Waiting = cond_both any placed.Waiting placed.Free (λ (p : BodyPlace). is_away_from slot p ≡ false) (λ _. refl) (λ _. refl)
 among_away slot rows any placed.Free = refl
 among_away slot rows any (placed.Away k) = refl
 
 pub away_settled : (slot : ℕ) (rows : List Row) (any : Bool) (kept : List Kept) → count_away slot (settled rows any kept) ≡ count_away slot kept
 away_settled slot rows any kept = away_mapped slot (λ (b : Kept). record b { place = place_among rows any b.place }) kept (λ b. among_away slot rows any b.place)
 
-opened_away : (slot : ℕ) (rows : List Row) (o : Origin) (at : Place) → is_away_from slot (opened_place rows o at) ≡ is_away_from slot at
+opened_away : (slot : ℕ) (rows : List Row) (o : Origin) (at : BodyPlace) → is_away_from slot (opened_place rows o at) ≡ is_away_from slot at
 opened_away slot rows (origin.Spec k) (placed.Home j) = refl
 opened_away slot rows (origin.Spec k) placed.Waiting = refl
-opened_away slot rows (origin.Spec k) placed.Free = cond_both (list_any (has_slot k) rows) (placed.Home k) placed.Free (λ (p : Place). is_away_from slot p ≡ false) (λ _. refl) (λ _. refl)
+opened_away slot rows (origin.Spec k) placed.Free = cond_both (list_any (has_slot k) rows) (placed.Home k) placed.Free (λ (p : BodyPlace). is_away_from slot p ≡ false) (λ _. refl) (λ _. refl)
 opened_away slot rows (origin.Spec k) (placed.Away j) = refl
 opened_away slot rows (origin.Call c) at = refl
 opened_away slot rows origin.Nobody at = refl
@@ -212,21 +212,21 @@ pub away_opened : (slot : ℕ) (rows : List Row) (kept : List Kept) → count_aw
 away_opened slot rows kept = away_mapped slot (λ (b : Kept). record b { place = opened_place rows b.origin b.place }) kept (λ b. opened_away slot rows b.origin b.place)
 
 -- a body that moves and wasn't away leaves those that are
-pub away_same : (t : Kept → Bool) (slot : ℕ) (to : Place) (kept : List Kept) → ((b : Kept) → t b ≡ true → is_away slot b ≡ false) → count_away slot kept ≤ count_away slot (move_first t to kept)
+pub away_same : (t : Kept → Bool) (slot : ℕ) (to : BodyPlace) (kept : List Kept) → ((b : Kept) → t b ≡ true → is_away slot b ≡ false) → count_away slot kept ≤ count_away slot (move_first t to kept)
 away_same t slot to [] other = omega arith
 away_same t slot to (b ∷ bs) other =
     cond_both (t b) (record b { place = to } ∷ bs) (b ∷ move_first t to bs) (λ (l : List Kept). count_away slot (b ∷ bs) ≤ count_away slot l)
     (λ is. omega (arith, no_count slot b (other b is), counted_away slot b bs, counted_away slot (record b { place = to }) bs))
     (λ _. omega (arith, away_same t slot to bs other, counted_away slot b bs, counted_away slot b (move_first t to bs)))
 
-isnt_away : (slot : ℕ) (at : Place) → (is_away_from slot at ≡ true → ⊥) → is_away_from slot at ≡ false
+isnt_away : (slot : ℕ) (at : BodyPlace) → (is_away_from slot at ≡ true → ⊥) → is_away_from slot at ≡ false
 isnt_away slot at never = by (is_away_from slot at) refl
   where
     by : (b : Bool) → is_away_from slot at ≡ b → is_away_from slot at ≡ false
     by false h = h
     by true h = absurd (never h)
 
-away_twice : (k slot : ℕ) (at : Place) → is_away_from k at ≡ true → is_away_from slot at ≡ true → k ≡ slot
+away_twice : (k slot : ℕ) (at : BodyPlace) → is_away_from k at ≡ true → is_away_from slot at ≡ true → k ≡ slot
 away_twice k slot (placed.Home j) a h = absurd (false≢true a)
 away_twice k slot placed.Waiting a h = absurd (false≢true a)
 away_twice k slot placed.Free a h = absurd (false≢true a)
@@ -235,7 +235,7 @@ away_twice k slot (placed.Away j) a h = sym (eqb-true j k a) ∙ eqb-true j slot
 pub away_when_home : (slot k : ℕ) (kept : List Kept) → count_away slot kept ≤ count_away slot (move_first (is_at_home k) (placed.Away k) kept)
 away_when_home slot k kept = away_same (is_at_home k) slot (placed.Away k) kept (λ b home. isnt_away slot b.place (λ away. away_or_home slot k b.place away home))
 
-pub away_when_up : (slot : ℕ) (to : Place) (kept : List Kept) → count_away slot kept ≤ count_away slot (move_first is_waiting to kept)
+pub away_when_up : (slot : ℕ) (to : BodyPlace) (kept : List Kept) → count_away slot kept ≤ count_away slot (move_first is_waiting to kept)
 away_when_up slot to kept = away_same is_waiting slot to kept (λ b waits. isnt_away slot b.place (λ away. waiting_or_away slot b.origin b.place waits away))
 
 -- another child's body comes
@@ -304,11 +304,11 @@ given_not n k kept within lacks = by (are_given n kept) refl
     by false h = h
     by true h = absurd (false≢true (sym lacks ∙ given_at n k kept h within))
 
-given_placed : (k : ℕ) (o : Origin) (at to : Place) → is_waiting_place to ≡ false → (is_spec k o && not (is_waiting_place at)) ≡ true → (is_spec k o && not (is_waiting_place to)) ≡ true
+given_placed : (k : ℕ) (o : Origin) (at to : BodyPlace) → is_waiting_place to ≡ false → (is_spec k o && not (is_waiting_place at)) ≡ true → (is_spec k o && not (is_waiting_place to)) ≡ true
 given_placed k o at to there h = and_from (is_spec k o) (not (is_waiting_place to)) (and_parts (is_spec k o) (not (is_waiting_place at)) h).0 (ap not there)
 
 -- a given body moves to a place where it waits with no call
-pub given_moved : (t : Kept → Bool) (to : Place) (n : ℕ) (kept : List Kept) → is_waiting_place to ≡ false → are_given n kept ≡ true → are_given n (move_first t to kept) ≡ true
+pub given_moved : (t : Kept → Bool) (to : BodyPlace) (n : ℕ) (kept : List Kept) → is_waiting_place to ≡ false → are_given n kept ≡ true → are_given n (move_first t to kept) ≡ true
 given_moved t to n kept there h = given_more n kept (move_first t to kept) (λ k given. any_moved t (is_given k) to kept (λ b _ is. given_placed k b.origin b.place to there is) given) h
 
 pub given_put : (n : ℕ) (kept : List Kept) (b : Kept) → are_given n kept ≡ true → are_given n (kept ++ b ∷ []) ≡ true
@@ -320,21 +320,21 @@ given_come slot n kept h =
     cond_both (list_any (is_away slot) kept) (move_first (is_away slot) (placed.Home slot) kept) (kept ++ b ∷ []) (λ (l : List Kept). are_given n l ≡ true)
     (λ _. given_moved (is_away slot) (placed.Home slot) n kept refl h) (λ _. given_put n kept b h)
 
-among_waiting : (rows : List Row) (any : Bool) (at : Place) → is_waiting_place at ≡ false → is_waiting_place (place_among rows any at) ≡ false
-among_waiting rows any (placed.Home k) h = cond_both (list_any (has_slot k) rows) (placed.Home k) placed.Free (λ (p : Place). is_waiting_place p ≡ false) (λ _. refl) (λ _. refl)
+among_waiting : (rows : List Row) (any : Bool) (at : BodyPlace) → is_waiting_place at ≡ false → is_waiting_place (place_among rows any at) ≡ false
+among_waiting rows any (placed.Home k) h = cond_both (list_any (has_slot k) rows) (placed.Home k) placed.Free (λ (p : BodyPlace). is_waiting_place p ≡ false) (λ _. refl) (λ _. refl)
 among_waiting rows any placed.Waiting h = absurd (false≢true (sym h))
 among_waiting rows any placed.Free h = refl
 among_waiting rows any (placed.Away k) h = refl
 
-opened_waiting : (rows : List Row) (o : Origin) (at : Place) → is_waiting_place at ≡ false → is_waiting_place (opened_place rows o at) ≡ false
+opened_waiting : (rows : List Row) (o : Origin) (at : BodyPlace) → is_waiting_place at ≡ false → is_waiting_place (opened_place rows o at) ≡ false
 opened_waiting rows (origin.Spec k) (placed.Home j) h = refl
 opened_waiting rows (origin.Spec k) placed.Waiting h = absurd (false≢true (sym h))
-opened_waiting rows (origin.Spec k) placed.Free h = cond_both (list_any (has_slot k) rows) (placed.Home k) placed.Free (λ (p : Place). is_waiting_place p ≡ false) (λ _. refl) (λ _. refl)
+opened_waiting rows (origin.Spec k) placed.Free h = cond_both (list_any (has_slot k) rows) (placed.Home k) placed.Free (λ (p : BodyPlace). is_waiting_place p ≡ false) (λ _. refl) (λ _. refl)
 opened_waiting rows (origin.Spec k) (placed.Away j) h = refl
 opened_waiting rows (origin.Call c) at h = h
 opened_waiting rows origin.Nobody at h = h
 
-not_waiting : (at : Place) → not (is_waiting_place at) ≡ true → is_waiting_place at ≡ false
+not_waiting : (at : BodyPlace) → not (is_waiting_place at) ≡ true → is_waiting_place at ≡ false
 not_waiting (placed.Home k) h = refl
 not_waiting placed.Waiting h = absurd (false≢true h)
 not_waiting placed.Free h = refl
@@ -356,7 +356,7 @@ given_without t n kept other h =
     given_more n kept (without_first t kept) (λ k given. any_left t (is_given k) kept (λ b is. ap (λ (x : Bool). x && not (is_waiting_place b.place)) (other k b is)) given) h
 
 -- at an opening the child in slot k has the body that was handed in for the specification at place k, as none is away
-given_opens : (k : ℕ) (rows : List Row) (any : Bool) (o : Origin) (at : Place) → list_any (has_slot k) rows ≡ true → is_away_from k at ≡ false → ((j : ℕ) → is_away_from j at ≡ false) → (is_spec k o && not (is_waiting_place at)) ≡ true
+given_opens : (k : ℕ) (rows : List Row) (any : Bool) (o : Origin) (at : BodyPlace) → list_any (has_slot k) rows ≡ true → is_away_from k at ≡ false → ((j : ℕ) → is_away_from j at ≡ false) → (is_spec k o && not (is_waiting_place at)) ≡ true
     → is_home_of k (opened_place rows o (place_among [] any at)) ≡ true
 given_opens k rows any (origin.Spec j) (placed.Home i) row near none h =
     let is : j ≡ k = eqb-true j k (and_parts (j == k) true h).0 in

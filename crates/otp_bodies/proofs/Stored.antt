@@ -10,7 +10,7 @@ use Rattle.otp_table.specs.declared.row.Row.{Row}
 use Rattle.otp_bodies.specs.declared.bodies.Kept.{Kept}
 use Rattle.otp_bodies.specs.declared.bodies.Origin.{Origin}
 use Rattle.otp_bodies.specs.declared.bodies.Origin.TheVariants as origin
-use Rattle.otp_bodies.specs.declared.bodies.Place.{Place}
+use Rattle.otp_bodies.specs.declared.bodies.BodyPlace.{BodyPlace}
 use Rattle.otp_bodies.specs.Bodies.{IsNew, IsStored, count_given, is_from, is_here, is_spec, opened, settled, stray}
 use Rattle.otp_bodies.proofs.Keeping.{changed_here, map_removed, opened_here, or_false, put_in, put_out, settled_here}
 use Rattle.otp_bodies.proofs.Once.{count_opened, count_put, count_settled}
@@ -27,7 +27,7 @@ at_most_one true = omega arith
 at_most_one false = omega arith
 
 -- a new body is the first of its specification
-put_once : (k : ℕ) (o : Origin) (to : Place) (kept : List Kept) → IsNew o kept → count_given k kept ≤ 1 → count_given k (kept ++ record { origin = o; place = to } ∷ []) ≤ 1
+put_once : (k : ℕ) (o : Origin) (to : BodyPlace) (kept : List Kept) → IsNew o kept → count_given k kept ≤ 1 → count_given k (kept ++ record { origin = o; place = to } ∷ []) ≤ 1
 put_once k (origin.Spec j) to kept new few = by (j == k) refl
   where
     by : (b : Bool) → is_spec k (origin.Spec j) ≡ b → count_given k (kept ++ record { origin = origin.Spec j; place = to } ∷ []) ≤ 1
@@ -40,7 +40,7 @@ put_once k (origin.Spec j) to kept new few = by (j == k) refl
 put_once k (origin.Call c) to kept new few = omega (arith, few, count_put k kept (record { origin = origin.Call c; place = to }))
 put_once k origin.Nobody to kept new few = omega (arith, few, count_put k kept (record { origin = origin.Nobody; place = to }))
 
-pub stored_put : {B : Type 0} (kept : List Kept) (bodies : List (Option B)) (o : Origin) (to : Place) (b : B) → is_here to ≡ true → IsNew o kept → IsStored (map is_some bodies) kept
+pub stored_put : {B : Type 0} (kept : List Kept) (bodies : List (Option B)) (o : Origin) (to : BodyPlace) (b : B) → is_here to ≡ true → IsNew o kept → IsStored (map is_some bodies) kept
     → IsStored (map is_some (bodies ++ Some b ∷ [])) (kept ++ record { origin = o; place = to } ∷ [])
 stored_put kept bodies o to b here new s =
     let one : Kept = record { origin = o; place = to } in
@@ -58,27 +58,27 @@ stored_removed kept bodies i within s = record {
 }
 
 -- a body that moves is whose it was
-moved_once : (k : ℕ) (kept : List Kept) (i : ℕ) (now : Kept) (to : Place) → now ≡ get_or kept i now → count_given k (slice_set kept i (record { origin = now.origin; place = to })) ≡ count_given k kept
+moved_once : (k : ℕ) (kept : List Kept) (i : ℕ) (now : Kept) (to : BodyPlace) → now ≡ get_or kept i now → count_given k (slice_set kept i (record { origin = now.origin; place = to })) ≡ count_given k kept
 moved_once k kept i now to at =
     let whose : Kept → ℕ = λ b. cond (is_from k b) 1 0 in
     sym (sum-map whose (slice_set kept i (record { origin = now.origin; place = to })))
     ∙ ap (λ (l : List ℕ). sum l) (map-set_same whose kept i (record { origin = now.origin; place = to }) now (ap whose at))
     ∙ sum-map whose kept
 
-pub stored_moved : (stored : List Bool) (kept : List Kept) (i : ℕ) (now : Kept) (to : Place) → now ≡ get_or kept i now → is_here now.place ≡ is_here to → IsStored stored kept → IsStored stored (slice_set kept i (record { origin = now.origin; place = to }))
+pub stored_moved : (stored : List Bool) (kept : List Kept) (i : ℕ) (now : Kept) (to : BodyPlace) → now ≡ get_or kept i now → is_here now.place ≡ is_here to → IsStored stored kept → IsStored stored (slice_set kept i (record { origin = now.origin; place = to }))
 stored_moved stored kept i now to at same s = record {
   here = s.here ∙ sym (changed_here kept i now to at same);
   once = λ k. let few = s.once k in omega (arith, few, moved_once k kept i now to at);
 }
 
-pub stored_in : {B : Type 0} (kept : List Kept) (bodies : List (Option B)) (i : ℕ) (now : Kept) (to : Place) (b : B) → now ≡ get_or kept i now → is_here to ≡ true → IsStored (map is_some bodies) kept
+pub stored_in : {B : Type 0} (kept : List Kept) (bodies : List (Option B)) (i : ℕ) (now : Kept) (to : BodyPlace) (b : B) → now ≡ get_or kept i now → is_here to ≡ true → IsStored (map is_some bodies) kept
     → IsStored (map is_some (slice_set bodies i (Some b))) (slice_set kept i (record { origin = now.origin; place = to }))
 stored_in kept bodies i now to b at here s = record {
   here = put_in kept bodies i now.origin to b here s.here;
   once = λ k. let few = s.once k in omega (arith, few, moved_once k kept i now to at);
 }
 
-pub stored_out : {B : Type 0} (kept : List Kept) (bodies : List (Option B)) (i : ℕ) (now : Kept) (to : Place) → now ≡ get_or kept i now → is_here to ≡ false → IsStored (map is_some bodies) kept
+pub stored_out : {B : Type 0} (kept : List Kept) (bodies : List (Option B)) (i : ℕ) (now : Kept) (to : BodyPlace) → now ≡ get_or kept i now → is_here to ≡ false → IsStored (map is_some bodies) kept
     → IsStored (map is_some (slice_set bodies i None)) (slice_set kept i (record { origin = now.origin; place = to }))
 stored_out kept bodies i now to at away s = record {
   here = put_out kept bodies i now.origin to away s.here;

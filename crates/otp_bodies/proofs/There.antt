@@ -7,8 +7,8 @@ use Rattle.otp_table.specs.declared.row.Row.{Row}
 use Rattle.otp_bodies.specs.Bodies.{AreThere, has_body, is_at_home, is_home_of, is_waiting_place, place_among, settled}
 use Rattle.otp_bodies.specs.Loose.{is_with_call}
 use Rattle.otp_bodies.specs.declared.bodies.Kept.{Kept}
-use Rattle.otp_bodies.specs.declared.bodies.Place.{Place}
-use Rattle.otp_bodies.specs.declared.bodies.Place.TheVariants as placed
+use Rattle.otp_bodies.specs.declared.bodies.BodyPlace.{BodyPlace}
+use Rattle.otp_bodies.specs.declared.bodies.BodyPlace.TheVariants as placed
 use Rattle.otp_bodies.proofs.Keeping.{or_false}
 use Rattle.otp_bodies.proofs.OnlyLoose.{same_head}
 
@@ -16,9 +16,9 @@ or_second : (a b : Bool) → b ≡ true → (a || b) ≡ true
 or_second true b h = refl
 or_second false b h = h
 
-place_stays : (rows : List Row) (any : Bool) (b : Kept) (bs : List Kept) → AreThere rows (b ∷ bs) → (at : Place) → b.place ≡ at → is_waiting_place at ≡ false → place_among rows any at ≡ at
+place_stays : (rows : List Row) (any : Bool) (b : Kept) (bs : List Kept) → AreThere rows (b ∷ bs) → (at : BodyPlace) → b.place ≡ at → is_waiting_place at ≡ false → place_among rows any at ≡ at
 place_stays rows any b bs there (placed.Home k) is none =
-    let here : is_at_home k b ≡ true = ap (λ (p : Place). is_home_of k p) is ∙ eq-eqb k k refl in
+    let here : is_at_home k b ≡ true = ap (λ (p : BodyPlace). is_home_of k p) is ∙ eq-eqb k k refl in
     let some : has_body k (b ∷ bs) ≡ true = ap (λ (x : Bool). x || has_body k bs) here in
     ap (λ (x : Bool). if x then placed.Home k else placed.Free) (there k some)
 place_stays rows any b bs there placed.Waiting is none = absurd (false≢true (sym none))

@@ -8,8 +8,8 @@ use Rattle.otp_table.specs.Rows.{has_slot}
 use Rattle.otp_bodies.specs.declared.bodies.Kept.{Kept}
 use Rattle.otp_bodies.specs.declared.bodies.Origin.{Origin}
 use Rattle.otp_bodies.specs.declared.bodies.Origin.TheVariants as origin
-use Rattle.otp_bodies.specs.declared.bodies.Place.{Place}
-use Rattle.otp_bodies.specs.declared.bodies.Place.TheVariants as place
+use Rattle.otp_bodies.specs.declared.bodies.BodyPlace.{BodyPlace}
+use Rattle.otp_bodies.specs.declared.bodies.BodyPlace.TheVariants as place
 use Rattle.otp_bodies.specs.declared.port.Flushed.{Flushed}
 use Rattle.otp_bodies.specs.declared.port.Flushed.TheVariants as flushed
 use Rattle.otp_spec.specs.declared.child.ChildSpec.{ChildSpec}
@@ -18,7 +18,7 @@ use Rattle.otp_rules.specs.Step.{opening_specs}
 use Rattle.otp_spec.specs.Flags.{is_simple}
 
 -- the supervisor has the body: it isn't with a process
-abbrev pub is_here : Place → Bool
+abbrev pub is_here : BodyPlace → Bool
 is_here (place.Home _) = true
 is_here place.Waiting = true
 is_here place.Free = true
@@ -28,7 +28,7 @@ is_here (place.Away _) = false
 abbrev pub bodies_in : List Kept → ℕ
 bodies_in kept = count_by (λ (b : Kept). is_here b.place) kept
 
-abbrev pub is_home_of : ℕ → Place → Bool
+abbrev pub is_home_of : ℕ → BodyPlace → Bool
 is_home_of slot (place.Home k) = k == slot
 is_home_of slot place.Waiting = false
 is_home_of slot place.Free = false
@@ -38,7 +38,7 @@ is_home_of slot (place.Away _) = false
 abbrev pub is_at_home : ℕ → Kept → Bool
 is_at_home slot b = is_home_of slot b.place
 
-abbrev pub is_away_from : ℕ → Place → Bool
+abbrev pub is_away_from : ℕ → BodyPlace → Bool
 is_away_from slot (place.Home _) = false
 is_away_from slot place.Waiting = false
 is_away_from slot place.Free = false
@@ -60,7 +60,7 @@ count_home slot kept = count_by (is_at_home slot) kept
 abbrev pub has_body : ℕ → List Kept → Bool
 has_body slot kept = list_any (is_at_home slot) kept
 
-abbrev pub waiting_as : Origin → Place → Option ℕ
+abbrev pub waiting_as : Origin → BodyPlace → Option ℕ
 waiting_as (origin.Spec _) at = None
 waiting_as origin.Nobody at = None
 waiting_as (origin.Call c) (place.Home _) = None
@@ -79,7 +79,7 @@ is_waiting b = is_some (waiting_call b)
 abbrev pub calls_waiting : List Kept → List ℕ
 calls_waiting kept = filter_map waiting_call kept
 
-abbrev pub is_free_place : Place → Bool
+abbrev pub is_free_place : BodyPlace → Bool
 is_free_place place.Free = true
 is_free_place _ = false
 
@@ -103,7 +103,7 @@ abbrev pub stray : Kept
 stray = record { origin = origin.Nobody; place = place.Free }
 
 -- the first body that passes the test is in this place from now on
-abbrev pub move_first : (Kept → Bool) → Place → List Kept → List Kept
+abbrev pub move_first : (Kept → Bool) → BodyPlace → List Kept → List Kept
 move_first test to [] = []
 move_first test to (b ∷ bs) = if test b then record b { place = to } ∷ bs else b ∷ move_first test to bs
 
@@ -126,7 +126,7 @@ without_first test (b ∷ bs) = if test b then bs else b ∷ without_first test 
 
 -- where a body goes that comes for the child in this slot, and that isn't in the list: it is the child's, unless that has
 -- its body here already
-abbrev pub place_without_line : ℕ → List Kept → Place
+abbrev pub place_without_line : ℕ → List Kept → BodyPlace
 place_without_line slot kept = if has_body slot kept then place.Free else place.Home slot
 
 -- a body comes for the child in this slot. Where its body is here already, it is nobody's
@@ -137,13 +137,13 @@ abbrev pub came_for : Option ℕ → List Kept → List Kept
 came_for None kept = kept ++ stray ∷ []
 came_for (Some slot) kept = come_home slot kept
 
-abbrev pub home_or_free : Option ℕ → Place
+abbrev pub home_or_free : Option ℕ → BodyPlace
 home_or_free None = place.Free
 home_or_free (Some slot) = place.Home slot
 
 -- the place of a start call's body: with the call while that waits; once it is taken up, its child's home, where the
 -- event made a row for it; else nobody has it
-abbrev pub place_of_call : Bool → Option ℕ → Place
+abbrev pub place_of_call : Bool → Option ℕ → BodyPlace
 place_of_call true slot = place.Waiting
 place_of_call false slot = home_or_free slot
 
@@ -153,7 +153,7 @@ taken_up true slot kept = move_first is_waiting (home_or_free slot) kept
 taken_up false slot kept = kept
 
 -- where a body is once these are the rows: in no slot that no row has, and with no call where none waits
-abbrev pub place_among : List Row → Bool → Place → Place
+abbrev pub place_among : List Row → Bool → BodyPlace → BodyPlace
 place_among rows is_any_waiting (place.Home k) = if list_any (has_slot k) rows then place.Home k else place.Free
 place_among rows is_any_waiting place.Waiting = if is_any_waiting then place.Waiting else place.Free
 place_among rows is_any_waiting place.Free = place.Free
@@ -166,7 +166,7 @@ settled rows is_any_waiting kept = map (λ (b : Kept). record b { place = place_
 abbrev pub AreThere : List Row → List Kept → Type 0
 AreThere rows kept = (slot : ℕ) → has_body slot kept ≡ true → list_any (has_slot slot) rows ≡ true
 
-abbrev pub opened_place : List Row → Origin → Place → Place
+abbrev pub opened_place : List Row → Origin → BodyPlace → BodyPlace
 opened_place rows (origin.Spec k) (place.Home j) = place.Home j
 opened_place rows (origin.Spec k) place.Waiting = place.Waiting
 opened_place rows (origin.Spec k) place.Free = if list_any (has_slot k) rows then place.Home k else place.Free
@@ -178,7 +178,7 @@ opened_place rows origin.Nobody at = at
 abbrev pub opened : List Row → List Kept → List Kept
 opened rows kept = map (λ (b : Kept). record b { place = opened_place rows b.origin b.place }) kept
 
-abbrev pub is_waiting_place : Place → Bool
+abbrev pub is_waiting_place : BodyPlace → Bool
 is_waiting_place place.Waiting = true
 is_waiting_place _ = false
 
@@ -205,7 +205,7 @@ IsNew (origin.Spec k) kept = count_given k kept ≡ 0
 IsNew (origin.Call _) kept = ⊤
 IsNew origin.Nobody kept = ⊤
 
-abbrev pub is_own_place : Origin → Place → Bool
+abbrev pub is_own_place : Origin → BodyPlace → Bool
 is_own_place (origin.Spec j) (place.Home k) = j == k
 is_own_place (origin.Spec j) place.Waiting = false
 is_own_place (origin.Spec j) place.Free = true
@@ -231,7 +231,7 @@ abbrev pub are_given : ℕ → List Kept → Bool
 are_given zero kept = true
 are_given (suc n) kept = are_given n kept && list_any (is_given n) kept
 
--- and none of the bodies is with a process: a supervisor can be made of them
+-- a supervisor can be made of these bodies: each of the first so many specifications has one, and none is with a process
 abbrev pub are_ready : ℕ → List Kept → Bool
 are_ready n kept = are_given n kept && not (list_any is_out kept)
 

@@ -2,10 +2,10 @@
 use Rattle.std.specs.Prelude.{◌≤◌, ⊤, ℕ, Bool, true, false, cond, List, Option, None, Some, count_by, get_or}
 use Rattle.otp_bodies.specs.Bodies.{is_waiting_place, stray}
 use Rattle.otp_bodies.specs.declared.bodies.Kept.{Kept}
-use Rattle.otp_bodies.specs.declared.bodies.Place.{Place}
-use Rattle.otp_bodies.specs.declared.bodies.Place.TheVariants as place
+use Rattle.otp_bodies.specs.declared.bodies.BodyPlace.{BodyPlace}
+use Rattle.otp_bodies.specs.declared.bodies.BodyPlace.TheVariants as place
 
-abbrev pub is_loose_place : Place → Bool
+abbrev pub is_loose_place : BodyPlace → Bool
 is_loose_place (place.Home _) = true
 is_loose_place place.Waiting = true
 is_loose_place place.Free = false

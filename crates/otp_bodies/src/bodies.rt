@@ -6,7 +6,7 @@ ghost use Rattle.otp_bodies.specs.Loose.{is_with_call};
 ghost use Rattle.otp_bodies.specs.Slots.{AreBelow};
 ghost use Rattle.otp_bodies.specs.declared.bodies.Kept.{Kept};
 ghost use Rattle.otp_bodies.specs.declared.bodies.Origin.TheVariants as origin;
-ghost use Rattle.otp_bodies.specs.declared.bodies.Place.TheVariants as placed;
+ghost use Rattle.otp_bodies.specs.declared.bodies.BodyPlace.TheVariants as placed;
 
 use crate::kept::{
     are_given, find_away, find_home, find_left, find_stray, find_waiting, home_or_free,
@@ -43,7 +43,7 @@ pub enum Origin {
 
 /// Where a body is.
 #[derive(Clone, Copy, Debug, PartialEq, Eq)]
-pub enum Place {
+pub enum BodyPlace {
     /// At home: its child is in this slot, and has no process.
     Home(usize),
     /// With the call that brought it, which waits.
@@ -58,7 +58,7 @@ pub enum Place {
 #[derive(Clone, Copy, Debug, PartialEq, Eq)]
 pub struct Kept {
     pub origin: Origin,
-    pub place: Place,
+    pub place: BodyPlace,
 }
 
 /// The bodies of a supervisor's children. Contracts see whose each is, and where, and for how many more there is room.
@@ -128,7 +128,7 @@ impl<B: Drop> Bodies<B> {
         self.only = None;
         self.kept.push_reserved(Kept {
             origin: Origin::Spec(count),
-            place: Place::Free,
+            place: BodyPlace::Free,
         });
         self.bodies.push_reserved(Some(body));
     }
@@ -166,7 +166,7 @@ impl<B: Drop> Bodies<B> {
         if is_any_from(&self.kept, place) || self.prepare().is_err() {
             return Err(body);
         }
-        self.put(Origin::Spec(place), Place::Free, body);
+        self.put(Origin::Spec(place), BodyPlace::Free, body);
         Ok(())
     }
 
@@ -187,7 +187,7 @@ impl<B: Drop> Bodies<B> {
     }
 
     /// Takes in a body, which no child has.
-    fn put(&mut self, origin: Origin, place: Place, body: B)
+    fn put(&mut self, origin: Origin, place: BodyPlace, body: B)
         requires room { 0 < self.old.room }
         requires here { is_here place ≡ true }
         requires new { IsNew origin self.old.kept }
@@ -222,7 +222,7 @@ impl<B: Drop> Bodies<B> {
     }
 
     /// The body at this place in the list is there from now on; it stays here.
-    fn move_to(&mut self, at: usize, to: Place)
+    fn move_to(&mut self, at: usize, to: BodyPlace)
         requires within { at < length self.old.kept }
         requires here { (d : Kept) → is_here (get_or self.old.kept at d).place ≡ is_here to }
         ensures { (d : Kept) → self.new.kept ≡ slice_set self.old.kept at (record (get_or self.old.kept at d) { place = to }) }
@@ -232,7 +232,7 @@ impl<B: Drop> Bodies<B> {
     }
 
     /// The body at this place in the list comes, and is there from now on.
-    fn take_in(&mut self, at: usize, to: Place, body: B)
+    fn take_in(&mut self, at: usize, to: BodyPlace, body: B)
         requires within { at < length self.old.kept }
         requires here { is_here to ≡ true }
         ensures { (d : Kept) → self.new.kept ≡ slice_set self.old.kept at (record (get_or self.old.kept at d) { place = to }) }
@@ -243,7 +243,7 @@ impl<B: Drop> Bodies<B> {
     }
 
     /// The body at this place in the list goes, and is away from now on.
-    fn take_out(&mut self, at: usize, to: Place) -> Option<B>
+    fn take_out(&mut self, at: usize, to: BodyPlace) -> Option<B>
         requires within { at < length self.old.kept }
         requires away { is_here to ≡ false }
         ensures kept { (d : Kept) → self.new.kept ≡ slice_set self.old.kept at (record (get_or self.old.kept at d) { place = to }) }
@@ -269,7 +269,7 @@ impl<B: Drop> Bodies<B> {
         ensures back { put_home at slot self.new.kept ≡ self.old.kept }
         ensures within { at < length self.new.kept }
     {
-        self.take_out(at, Place::Away(slot))
+        self.take_out(at, BodyPlace::Away(slot))
     }
 
     /// Takes in, at this place in the list, the body of the child in this slot: it came home with the note of its process's end, or the
@@ -278,7 +278,7 @@ impl<B: Drop> Bodies<B> {
         requires { at < length self.old.kept }
         ensures { self.new.kept ≡ put_home at slot self.old.kept }
     {
-        self.take_in(at, Place::Home(slot), body);
+        self.take_in(at, BodyPlace::Home(slot), body);
     }
 
     /// Takes in the body of the child in this slot. Where its body is here already, this one is nobody's.
@@ -287,7 +287,7 @@ impl<B: Drop> Bodies<B> {
         ensures { self.new.kept ≡ come_home slot self.old.kept }
     {
         match find_away(&self.kept, slot) {
-            Some(at) => self.take_in(at, Place::Home(slot), body),
+            Some(at) => self.take_in(at, BodyPlace::Home(slot), body),
             None => {
                 let place = self.place_without_line(slot);
                 self.put(Origin::Nobody, place, body)
@@ -297,13 +297,13 @@ impl<B: Drop> Bodies<B> {
 
     /// Where a body goes that comes for the child in this slot and that has no line in the list: home, unless the child
     /// has its body there already.
-    fn place_without_line(&self, slot: usize) -> Place
+    fn place_without_line(&self, slot: usize) -> BodyPlace
         ensures place { result ≡ place_without_line slot self.now.kept }
         ensures here { is_here result ≡ true }
     {
         match find_home(&self.kept, slot) {
-            Some(_) => Place::Free,
-            None => Place::Home(slot),
+            Some(_) => BodyPlace::Free,
+            None => BodyPlace::Home(slot),
         }
     }
 
@@ -322,7 +322,7 @@ impl<B: Drop> Bodies<B> {
     {
         match home {
             Some(slot) => self.come_home(slot, body),
-            None => self.put(Origin::Nobody, Place::Free, body),
+            None => self.put(Origin::Nobody, BodyPlace::Free, body),
         }
     }
 

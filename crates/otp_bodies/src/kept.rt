@@ -4,7 +4,7 @@ ghost use Rattle.std.specs.List.{list_any};
 ghost use Rattle.otp_bodies.specs.Bodies.{are_given, home_or_free, is_at_home, is_from, is_given, is_here, is_away, is_left_of, is_out, is_stray, is_waiting, opened, opened_place, place_among, place_of_call, settled};
 ghost use Rattle.otp_bodies.specs.Slots.{AreBelow, AreTaken};
 
-use crate::bodies::{Kept, Origin, Place};
+use crate::bodies::{BodyPlace, Kept, Origin};
 use crate::slots::{is_taken, taken_slots};
 use otp_spec::MAX_CHILDREN;
 use otp_table::Row;
@@ -13,7 +13,7 @@ pub(crate) fn is_at_home(kept: &Kept, slot: usize) -> bool
     ensures { result ≡ is_at_home slot kept.now }
 {
     match kept.place {
-        Place::Home(home) => home == slot,
+        BodyPlace::Home(home) => home == slot,
         _ => false,
     }
 }
@@ -22,7 +22,7 @@ pub(crate) fn is_away(kept: &Kept, slot: usize) -> bool
     ensures { result ≡ is_away slot kept.now }
 {
     match kept.place {
-        Place::Away(home) => home == slot,
+        BodyPlace::Away(home) => home == slot,
         _ => false,
     }
 }
@@ -31,7 +31,7 @@ fn is_waiting(kept: &Kept) -> bool
     ensures { result ≡ is_waiting kept.now }
 {
     match (kept.origin, kept.place) {
-        (Origin::Call(_), Place::Waiting) => true,
+        (Origin::Call(_), BodyPlace::Waiting) => true,
         _ => false,
     }
 }
@@ -40,7 +40,7 @@ fn is_left_of(kept: &Kept, call: u64) -> bool
     ensures { result ≡ is_left_of call kept.now }
 {
     match (kept.origin, kept.place) {
-        (Origin::Call(brought), Place::Free) => brought == call,
+        (Origin::Call(brought), BodyPlace::Free) => brought == call,
         _ => false,
     }
 }
@@ -49,28 +49,28 @@ fn is_stray(kept: &Kept) -> bool
     ensures { result ≡ is_stray kept.now }
 {
     match (kept.origin, kept.place) {
-        (Origin::Nobody, Place::Free) => true,
+        (Origin::Nobody, BodyPlace::Free) => true,
         _ => false,
     }
 }
 
-pub(crate) fn home_or_free(slot: Option<usize>) -> Place
+pub(crate) fn home_or_free(slot: Option<usize>) -> BodyPlace
     ensures place { result ≡ home_or_free slot }
     ensures here { is_here result ≡ true }
 {
     match slot {
-        Some(slot) => Place::Home(slot),
-        None => Place::Free,
+        Some(slot) => BodyPlace::Home(slot),
+        None => BodyPlace::Free,
     }
 }
 
 /// Where a start call's body is: with the call while that waits, and then at its child's home, if it has a child.
-pub(crate) fn place_of_call(waits: bool, slot: Option<usize>) -> Place
+pub(crate) fn place_of_call(waits: bool, slot: Option<usize>) -> BodyPlace
     ensures place { result ≡ place_of_call waits slot }
     ensures here { is_here result ≡ true }
 {
     if waits {
-        Place::Waiting
+        BodyPlace::Waiting
     } else {
         home_or_free(slot)
     }
@@ -118,17 +118,17 @@ fn settle_one(one: &mut Kept, rows: &[Row], taken: &[bool; MAX_CHILDREN], is_any
     ensures { one.new ≡ record one.old { place = place_among rows.now is_any_waiting one.old.place } }
 {
     match one.place {
-        Place::Home(slot) => {
+        BodyPlace::Home(slot) => {
             if !is_taken(rows, taken, slot) {
-                one.place = Place::Free;
+                one.place = BodyPlace::Free;
             }
         }
-        Place::Waiting => {
+        BodyPlace::Waiting => {
             if !is_any_waiting {
-                one.place = Place::Free;
+                one.place = BodyPlace::Free;
             }
         }
-        Place::Free | Place::Away(_) => {}
+        BodyPlace::Free | BodyPlace::Away(_) => {}
     }
 }
 
@@ -149,9 +149,9 @@ pub(crate) fn is_seen_to_stay(one: &Kept, rows: &[Row], is_any_waiting: bool) ->
     ensures { IsTrue result → place_among rows.now is_any_waiting one.now.place ≡ one.now.place }
 {
     match one.place {
-        Place::Home(slot) => slot < rows.len() && rows[slot].slot == slot,
-        Place::Waiting => is_any_waiting,
-        Place::Free | Place::Away(_) => true,
+        BodyPlace::Home(slot) => slot < rows.len() && rows[slot].slot == slot,
+        BodyPlace::Waiting => is_any_waiting,
+        BodyPlace::Free | BodyPlace::Away(_) => true,
     }
 }
 
@@ -183,9 +183,9 @@ fn open_one(one: &mut Kept, rows: &[Row], taken: &[bool; MAX_CHILDREN])
     requires below { AreBelow rows.now }
     ensures { one.new ≡ record one.old { place = opened_place rows.now one.old.origin one.old.place } }
 {
-    if let (Origin::Spec(place), Place::Free) = (one.origin, one.place) {
+    if let (Origin::Spec(place), BodyPlace::Free) = (one.origin, one.place) {
         if is_taken(rows, taken, place) {
-            one.place = Place::Home(place);
+            one.place = BodyPlace::Home(place);
         }
     }
 }
@@ -231,7 +231,7 @@ fn is_given(kept: &Kept, place: usize) -> bool
     ensures { result ≡ is_given place kept.now }
 {
     match (kept.origin, kept.place) {
-        (_, Place::Waiting) => false,
+        (_, BodyPlace::Waiting) => false,
         (Origin::Spec(of), _) => of == place,
         _ => false,
     }
@@ -247,7 +247,7 @@ fn is_any_given(kept: &[Kept], place: usize) -> bool
 fn is_out(kept: &Kept) -> bool
     ensures { result ≡ is_out kept.now }
 {
-    matches!(kept.place, Place::Away(_))
+    matches!(kept.place, BodyPlace::Away(_))
 }
 
 /// Whether one of the bodies is with a process.

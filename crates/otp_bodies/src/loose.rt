@@ -6,7 +6,7 @@ ghost use Rattle.otp_bodies.specs.Bodies.{is_at_home, settled, stray};
 ghost use Rattle.otp_bodies.specs.Loose.{IsOnlyLoose, count_loose, is_loose, loose_at};
 ghost use Rattle.otp_bodies.specs.declared.bodies.Kept.{Kept};
 
-use crate::bodies::{Kept, Place};
+use crate::bodies::{BodyPlace, Kept};
 use crate::kept::{find_home, is_at_home, is_seen_to_stay};
 use otp_table::Row;
 
@@ -14,8 +14,8 @@ fn is_loose(kept: &Kept) -> bool
     ensures { result ≡ is_loose kept.now }
 {
     match kept.place {
-        Place::Home(_) | Place::Waiting => true,
-        Place::Free | Place::Away(_) => false,
+        BodyPlace::Home(_) | BodyPlace::Waiting => true,
+        BodyPlace::Free | BodyPlace::Away(_) => false,
     }
 }
 

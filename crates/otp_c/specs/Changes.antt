@@ -2,15 +2,15 @@
 use Rattle.std.specs.Prelude.{◌≡◌, ◌⊎◌, ℕ, List, Option, Some, None, Result, Ok, Err}
 use Rattle.otp_file.specs.Trees.{Tree}
 use Rattle.otp_file.specs.declared.fault.TableFault.{TableFault}
-use Rattle.otp_driven.specs.declared.fault.ChangeRefusal.{ChangeRefusal}
-use Rattle.otp_driven.specs.declared.fault.ChangeRefusal.TheVariants.{OutOfMemory}
+use Rattle.otp_driver.specs.declared.driven.fault.ChangeRefusal.{ChangeRefusal}
+use Rattle.otp_driver.specs.declared.driven.fault.ChangeRefusal.TheVariants.{OutOfMemory}
 use Rattle.otp_driver.specs.Changed.{Changes, RefusesChange}
 use Rattle.otp_driver.specs.declared.changing.Unchanged.{Unchanged}
 use Rattle.otp_driver.specs.declared.session.Session.{Session}
-use Rattle.otp_shapes.specs.declared.status.TheConstants.{OTP_BAD_TREE, OTP_MEMORY, OTP_OK}
-use Rattle.otp_shapes.specs.declared.structs.CFault.{CFault}
-use Rattle.otp_shapes.specs.Faults.{ShowsFault, ShowsUnchanged}
-use Rattle.otp_shapes.specs.Statuses.{change_status}
+use Rattle.otp_c.specs.declared.shapes.status.TheConstants.{OTP_BAD_TREE, OTP_MEMORY, OTP_OK}
+use Rattle.otp_c.specs.declared.shapes.structs.CFault.{CFault}
+use Rattle.otp_c.specs.Faults.{ShowsFault, ShowsUnchanged}
+use Rattle.otp_c.specs.Statuses.{change_status}
 use Rattle.otp_c.specs.Opens.{ReadsTree}
 
 -- the fault is written, unless memory was refused

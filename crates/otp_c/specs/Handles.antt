@@ -1,13 +1,13 @@
 -- What a call does with a handle (own).
 use Rattle.std.specs.Prelude.{◌≡◌, ℕ, Option, None, Some, is_some}
 use Rattle.otp_driver.specs.declared.session.Session.{Session}
-use Rattle.otp_shapes.specs.declared.status.TheConstants.{OTP_CLOSED}
+use Rattle.otp_c.specs.declared.shapes.status.TheConstants.{OTP_CLOSED}
 
 -- an empty handle is told so
 abbrev pub IsTold : Option Session → ℕ → Type 0
 IsTold held status = held ≡ None → status ≡ OTP_CLOSED
 
--- and stays empty, as one with a tree keeps it
+-- an empty handle stays empty, and one with a tree keeps it
 abbrev pub IsKept : Option Session → Option Session → Type 0
 IsKept old new = is_some new ≡ is_some old
 

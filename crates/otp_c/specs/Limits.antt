@@ -3,8 +3,8 @@ use Rattle.std.specs.Prelude.{ℕ, ◌==◌, if◌then◌else◌}
 use Rattle.otp_reason.specs.declared.name.TheConstants.{NAME_SIZE}
 use Rattle.otp_reason.specs.declared.text.TheConstants.{TEXT_SIZE}
 use Rattle.otp_spec.specs.declared.limits.TheConstants.{MAX_CHILDREN, MAX_READING, MAX_TABLES}
-use Rattle.otp_driven.specs.declared.limits.TheConstants.{KEPT_EVENTS}
-use Rattle.otp_shapes.specs.declared.structs.TheConstants.{FAULT_SIZE}
+use Rattle.otp_driver.specs.declared.driven.limits.TheConstants.{KEPT_EVENTS}
+use Rattle.otp_c.specs.declared.shapes.structs.TheConstants.{FAULT_SIZE}
 
 -- the limit of a number; 0 where there is none
 abbrev pub limit_of : ℕ → ℕ

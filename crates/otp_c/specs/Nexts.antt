@@ -1,18 +1,18 @@
 -- What is handed out when the next order is asked for (own).
 use Rattle.std.specs.Prelude.{◌≡◌, ℕ, Option, Some, None, Result, Ok, Err}
 use Rattle.otp_rules.specs.declared.event.Effect.{Effect}
-use Rattle.otp_driven.specs.declared.fault.DriveFault.{DriveFault}
+use Rattle.otp_driver.specs.declared.driven.fault.DriveFault.{DriveFault}
 use Rattle.otp_driver.specs.declared.order.Order.{Order}
 use Rattle.otp_driver.specs.declared.route.Route.{Route}
 use Rattle.otp_driver.specs.declared.session.Session.{Session}
 use Rattle.otp_driver.specs.Driven.{Driven, IsNext}
-use Rattle.otp_driven.specs.Members.{state_in}
+use Rattle.otp_driver.specs.Members.{state_in}
 use Rattle.otp_driver.specs.Orders.{what_of}
 use Rattle.otp_driver.specs.Sessions.{NextTold}
-use Rattle.otp_shapes.specs.declared.status.TheConstants.{OTP_NONE, OTP_OK}
-use Rattle.otp_shapes.specs.declared.structs.COrder.{COrder}
-use Rattle.otp_shapes.specs.Orders.{ShowsOrder}
-use Rattle.otp_shapes.specs.Statuses.{status_of}
+use Rattle.otp_c.specs.declared.shapes.status.TheConstants.{OTP_NONE, OTP_OK}
+use Rattle.otp_c.specs.declared.shapes.structs.COrder.{COrder}
+use Rattle.otp_c.specs.Orders.{ShowsOrder}
+use Rattle.otp_c.specs.Statuses.{status_of}
 
 -- the status says which answer it is, and the struct is written where it is an order
 abbrev pub SaysNext : Result (Option Order) DriveFault → ℕ → COrder → COrder → Type 0

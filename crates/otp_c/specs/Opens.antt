@@ -6,9 +6,9 @@ use Rattle.otp_file.specs.declared.fault.TableFault.{TableFault}
 use Rattle.otp_file.specs.declared.fault.TreeFault.TheVariants as fault
 use Rattle.otp_driver.specs.declared.session.Session.{Session}
 use Rattle.otp_driver.specs.Opened.{Opens}
-use Rattle.otp_shapes.specs.declared.status.TheConstants.{OTP_BAD_TREE, OTP_MEMORY, OTP_OK}
-use Rattle.otp_shapes.specs.declared.structs.CFault.{CFault}
-use Rattle.otp_shapes.specs.Faults.{ShowsFault}
+use Rattle.otp_c.specs.declared.shapes.status.TheConstants.{OTP_BAD_TREE, OTP_MEMORY, OTP_OK}
+use Rattle.otp_c.specs.declared.shapes.structs.CFault.{CFault}
+use Rattle.otp_c.specs.Faults.{ShowsFault}
 
 -- the bytes are refused for this
 pub record IsRefusal (bytes : List ℕ) (why : TableFault) : Type 0 where
@@ -22,13 +22,13 @@ ReadsTree bytes (Ok tree) = SaysAt bytes (Ok tree)
 ReadsTree bytes (Err None) = ⊤
 ReadsTree bytes (Err (Some why)) = IsRefusal bytes why
 
--- the same of a tree that is opened
+-- what a tree that is opened gives: a session; no memory; or a refusal
 abbrev pub Reads : List ℕ → Result Session (Option TableFault) → Type 0
 Reads bytes (Ok session) = (tree : Tree) × SaysAt bytes (Ok tree) × Opens tree session.driver × (session.answer ≡ None)
 Reads bytes (Err None) = ⊤
 Reads bytes (Err (Some why)) = IsRefusal bytes why
 
--- and what the call answers then; where the box of a tree gets no memory there is none
+-- what the call answers to an opening; where the box of a tree gets no memory there is none
 abbrev pub SaysOpen : Result Session (Option TableFault) → ℕ → Option Session → CFault → CFault → Type 0
 SaysOpen (Ok session) status held old new = (status ≡ OTP_OK) × (held ≡ Some session) × (new ≡ old)
 SaysOpen (Err None) status held old new = (status ≡ OTP_MEMORY) × (held ≡ None) × (new ≡ old)

@@ -5,7 +5,7 @@ use Rattle.otp_rules.specs.declared.call.ChildLine.{ChildLine}
 use Rattle.otp_rules.specs.declared.call.Reply.{Reply}
 use Rattle.otp_rules.specs.declared.call.Reply.TheVariants as reply
 use Rattle.otp_spec.specs.declared.child.ChildSpec.{ChildSpec}
-use Rattle.otp_shapes.specs.declared.status.TheConstants.{OTP_NONE, OTP_OK}
+use Rattle.otp_c.specs.declared.shapes.status.TheConstants.{OTP_NONE, OTP_OK}
 
 -- something is said where there is something, and else the struct stays
 abbrev pub Says : {A C : Type 0} → (A → C → Type 0) → Option A → ℕ → C → C → Type 0

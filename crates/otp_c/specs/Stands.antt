@@ -1,8 +1,8 @@
 -- What the structs of a supervisor and of a child as they stand say (own).
 use Rattle.std.specs.Prelude.{◌≡◌, ℕ, ◌-◌, ◌*◌, ◌^◌, List, Option, Some, None, count_by, is_some, length, min, nat_le, position, slice_get}
-use Rattle.otp_driven.specs.declared.link.Link.{Link}
-use Rattle.otp_driven.specs.Links.{is_link_of}
-use Rattle.otp_driven.specs.Members.{Member, state_in}
+use Rattle.otp_driver.specs.declared.driven.link.Link.{Link}
+use Rattle.otp_driver.specs.Links.{is_link_of}
+use Rattle.otp_driver.specs.Members.{Member, state_in}
 use Rattle.otp_driver.specs.declared.session.Session.{Session}
 use Rattle.otp_rules.specs.Counts.{counts_of}
 use Rattle.otp_rules.specs.Ends.{last_stamps}
@@ -13,13 +13,13 @@ use Rattle.otp_spec.specs.declared.child.ChildSpec.{ChildSpec}
 use Rattle.otp_table.specs.declared.row.Row.{Row}
 use Rattle.otp_table.specs.declared.row.RowState.{RowState}
 use Rattle.otp_table.specs.declared.row.RowState.TheVariants as row
-use Rattle.otp_shapes.specs.declared.status.TheConstants.{OTP_NONE, OTP_NO_SUPERVISOR, OTP_OK}
-use Rattle.otp_shapes.specs.declared.structs.CChild.{CChild}
-use Rattle.otp_shapes.specs.declared.structs.CName.{CName}
-use Rattle.otp_shapes.specs.declared.structs.CSupervisor.{CSupervisor}
-use Rattle.otp_shapes.specs.Orders.{ShowsName, ShowsSome}
-use Rattle.otp_shapes.specs.Shown.{ShowsSpec}
-use Rattle.otp_shapes.specs.Words.{auto_shutdown_number, cause_number, child_state_number, flag_number, phase_number, strategy_number}
+use Rattle.otp_c.specs.declared.shapes.status.TheConstants.{OTP_NONE, OTP_NO_SUPERVISOR, OTP_OK}
+use Rattle.otp_c.specs.declared.shapes.structs.CChild.{CChild}
+use Rattle.otp_c.specs.declared.shapes.structs.CName.{CName}
+use Rattle.otp_c.specs.declared.shapes.structs.CSupervisor.{CSupervisor}
+use Rattle.otp_c.specs.Orders.{ShowsName, ShowsSome}
+use Rattle.otp_c.specs.Shown.{ShowsSpec}
+use Rattle.otp_c.specs.Words.{auto_shutdown_number, cause_number, child_state_number, flag_number, phase_number, strategy_number}
 
 -- the number, or 0 where there is none
 abbrev pub or_zero : Option ℕ → ℕ
@@ -107,7 +107,7 @@ abbrev pub SaysChild : List Link → ℕ → ℕ → Option Member → ℕ → C
 SaysChild links place index None status old new = (status ≡ OTP_NO_SUPERVISOR) × (new ≡ old)
 SaysChild links place index (Some m) status old new = SaysRow links place (slice_get (state_in m).rows index) status old new
 
--- the same of a session's supervisor, and of a child
+-- what a call about a session's supervisor answers, and one about a child
 abbrev pub LooksAt : ℕ → ℕ → CSupervisor → CSupervisor → Session → Type 0
 LooksAt place status old new session =
     SaysSupervisor (slice_get session.driver.members place) (slice_get session.driver.links place) session.driver.reading status old new

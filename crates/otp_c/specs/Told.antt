@@ -8,18 +8,18 @@ use Rattle.otp_rules.specs.declared.call.Call.TheVariants as call
 use Rattle.otp_rules.specs.declared.event.Item.TheVariants as item
 use Rattle.otp_rules.specs.declared.event.Kind.TheVariants as event_kind
 use Rattle.otp_spec.specs.declared.limits.TheConstants.{MAX_READING}
-use Rattle.otp_driven.specs.declared.fault.DriveFault.{DriveFault}
+use Rattle.otp_driver.specs.declared.driven.fault.DriveFault.{DriveFault}
 use Rattle.otp_driver.specs.declared.session.Session.{Session}
 use Rattle.otp_driver.specs.Driven.{Called, at_reading, IsAsked, Occurs, RefusesCall, RefusesNote, is_nested, process_of}
-use Rattle.otp_shapes.specs.declared.status.TheConstants.{OTP_BAD_KIND, OTP_BAD_NAME, OTP_BAD_READING, OTP_BAD_TEXT, OTP_OK}
-use Rattle.otp_shapes.specs.declared.structs.CName.{CName}
-use Rattle.otp_shapes.specs.declared.structs.CSpec.{CSpec}
-use Rattle.otp_shapes.specs.declared.words.NoReason.{NoReason}
-use Rattle.otp_shapes.specs.declared.words.NoReason.TheVariants as unsaid
-use Rattle.otp_shapes.specs.Reasons.{HasText, ReasonSaid}
-use Rattle.otp_shapes.specs.Shown.{IsOutside, SaysName, SpecSaid}
-use Rattle.otp_shapes.specs.Statuses.{status_of}
-use Rattle.otp_shapes.specs.Words.{note_kind_number}
+use Rattle.otp_c.specs.declared.shapes.status.TheConstants.{OTP_BAD_KIND, OTP_BAD_NAME, OTP_BAD_READING, OTP_BAD_TEXT, OTP_OK}
+use Rattle.otp_c.specs.declared.shapes.structs.CName.{CName}
+use Rattle.otp_c.specs.declared.shapes.structs.CSpec.{CSpec}
+use Rattle.otp_c.specs.declared.shapes.words.NoReason.{NoReason}
+use Rattle.otp_c.specs.declared.shapes.words.NoReason.TheVariants as unsaid
+use Rattle.otp_c.specs.Reasons.{HasText, ReasonSaid}
+use Rattle.otp_c.specs.Shown.{IsOutside, SaysName, SpecSaid}
+use Rattle.otp_c.specs.Statuses.{status_of}
+use Rattle.otp_c.specs.Words.{note_kind_number}
 
 -- the clock is read, if the reading is one
 abbrev pub Ticks : ℕ → ℕ → Session → Session → Type 0

@@ -5,13 +5,13 @@ ghost use Rattle.otp_c.specs.Handles.{IsKept, IsTold, OnTree};
 ghost use Rattle.otp_c.specs.Told.{AnswersCall, AnswersNote, CallSaid, Calls, NoteSaid, Notes, StartSaid, Stops, Ticks};
 
 use crate::handle::Handle;
-use otp_driver::Session;
-use otp_reason::Note;
-use otp_rules::Call;
-use otp_shapes::{
+use crate::shapes::{
     CName, CSpec, NoReason, OTP_BAD_KIND, OTP_BAD_READING, OTP_BAD_TEXT, OTP_CLOSED, OTP_OK, named,
     reason_in, spec_in, status_of,
 };
+use otp_driver::Session;
+use otp_reason::Note;
+use otp_rules::Call;
 use std::alloc::Global;
 
 fn tick(session: &mut Session, reading: u64) -> u32

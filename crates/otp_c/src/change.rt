@@ -3,16 +3,16 @@
 ghost use Rattle.std.specs.Prelude.{◌≡◌, None};
 ghost use Rattle.otp_c.specs.Changes.{ChangesIn, SaysGoneOn, TellsWhy};
 ghost use Rattle.otp_c.specs.Handles.{IsKept, IsTold, OnTree};
-ghost use Rattle.otp_shapes.specs.Statuses.{change_status};
+ghost use Rattle.otp_c.specs.Statuses.{change_status};
 
 use crate::handle::Handle;
-use crate::tree_of;
-use otp_driven::ChangeRefusal;
-use otp_driver::{Session, Unchanged};
-use otp_file::TreeSpec;
-use otp_shapes::{
+use crate::shapes::{
     CFault, OTP_BAD_TREE, OTP_CLOSED, OTP_MEMORY, OTP_OK, change_status, fault_of, unchanged_of,
 };
+use crate::tree_of;
+use otp_driver::driven::ChangeRefusal;
+use otp_driver::{Session, Unchanged};
+use otp_file::TreeSpec;
 use std::alloc::Global;
 
 /// Says why a tree doesn't go on.

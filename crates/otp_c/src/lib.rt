@@ -1,6 +1,7 @@
 //! Trees of supervisors for C: the calls of `otp.h`, and what each answers.
 //!
-//! The header says what a caller owes. Each export takes the tree out of its handle, does one thing, and puts it back.
+//! The header says what a caller owes. Each export takes the tree out of its handle, does one thing, and puts it back. `shapes` has
+//! the structs of the header, its statuses and its numbers.
 #![tactic(auto)]
 
 ghost use Rattle.std.specs.Prelude.{◌≡◌, ◌<◌, None, Some, is_some, length, min, option_map, slice_get, true};
@@ -13,9 +14,9 @@ ghost use Rattle.otp_c.specs.Said.{Says, line_in, spec_in};
 ghost use Rattle.otp_c.specs.Stands.{LooksAt, LooksAtChild, SaysChild, SaysRow, SaysSupervisor};
 ghost use Rattle.otp_c.specs.Versions.{version_number};
 ghost use Rattle.otp_c.specs.declared.version.TheConstants.{MAJOR, MINOR, PATCH};
-ghost use Rattle.otp_shapes.specs.AnswersShown.{ShowsAnswer, ShowsLine};
-ghost use Rattle.otp_shapes.specs.Shown.{ShowsSpec};
-ghost use Rattle.otp_shapes.specs.declared.status.TheConstants.{OTP_OK, OTP_OPEN};
+ghost use Rattle.otp_c.specs.AnswersShown.{ShowsAnswer, ShowsLine};
+ghost use Rattle.otp_c.specs.Shown.{ShowsSpec};
+ghost use Rattle.otp_c.specs.declared.shapes.status.TheConstants.{OTP_OK, OTP_OPEN};
 ghost use Rattle.otp_spec.specs.declared.limits.TheConstants.{MAX_TABLES};
 
 mod calls;
@@ -24,26 +25,27 @@ mod handle;
 mod look;
 mod parts;
 mod room;
+pub mod shapes;
 mod version;
 
 use crate::look::{row_out, supervisor_out};
+use crate::shapes::{
+    OTP_BAD_TREE, OTP_CLOSED, OTP_MEMORY, OTP_NO_SUPERVISOR, OTP_NONE, OTP_OK, OTP_OPEN,
+    answer_out, fault_of, line_out, spec_out, status_of, write_order,
+};
 pub use calls::{otp_call, otp_note, otp_start_child, otp_stop, otp_tick};
 pub use change::otp_change;
 pub use handle::Handle;
-use otp_driven::{KEPT_EVENTS, Link, Supervisor};
+use otp_driver::driven::{KEPT_EVENTS, Link, Supervisor};
 use otp_driver::{Driver, Session};
 use otp_file::{TableFault, TreeFault, TreeSpec, read_located};
 use otp_reason::{NAME_SIZE, TEXT_SIZE};
 use otp_rules::{ChildLine, Reply};
-pub use otp_shapes::{
-    CAnswer, CChild, CFault, CLine, CName, COrder, CSpec, CSupervisor, CText, FAULT_SIZE,
-};
-use otp_shapes::{
-    OTP_BAD_TREE, OTP_CLOSED, OTP_MEMORY, OTP_NO_SUPERVISOR, OTP_NONE, OTP_OK, OTP_OPEN,
-    answer_out, fault_of, line_out, spec_out, status_of, write_order,
-};
 use otp_spec::{ChildSpec, MAX_CHILDREN, MAX_READING, MAX_TABLES};
 use otp_table::Row;
+pub use shapes::{
+    CAnswer, CChild, CFault, CLine, CName, COrder, CSpec, CSupervisor, CText, FAULT_SIZE,
+};
 use std::alloc::Global;
 use version::{MAJOR, MINOR, PATCH};
 

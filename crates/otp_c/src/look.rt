@@ -2,15 +2,15 @@
 
 ghost use Rattle.std.specs.Prelude.{◌≡◌};
 ghost use Rattle.otp_c.specs.Stands.{ShowsChild, ShowsRow, ShowsSupervisor, deadline_in, last_cause, nested_number, number_in, recent};
-ghost use Rattle.otp_shapes.specs.Words.{child_state_number, phase_number};
+ghost use Rattle.otp_c.specs.Words.{child_state_number, phase_number};
 
-use otp_driven::{Link, Supervisor};
-use otp_driver::Driver;
-use otp_rules::{Ending, Phase};
-use otp_shapes::{
+use crate::shapes::{
     CChild, CName, CSupervisor, auto_shutdown_number, cause_number, flag, name_out, no_name,
     some_name_out, spec_out, strategy_number,
 };
+use otp_driver::Driver;
+use otp_driver::driven::{Link, Supervisor};
+use otp_rules::{Ending, Phase};
 use otp_spec::ChildSpec;
 use otp_table::{Row, RowState};
 use std::collections::VecDeque;

@@ -28,7 +28,7 @@ Puts one old new =
     ((old.first ≡ None) × (new.first ≡ Some one) × (new.others.items ≡ old.others.items))
     ⊎ ((new.first ≡ old.first) × (new.others.items ≡ old.others.items ++ one ∷ []))
 
--- the same of one with this fault and this text
+-- one thing more is held, with this fault and this text
 abbrev pub Holds : TreeFault → List ℕ → Found → Found → Type 0
 Holds why text old new = (held : Finding) × (held.fault ≡ why) × (held.text.items ≡ text) × Puts held old new
 

@@ -1,4 +1,5 @@
-pub mod Checks
-pub mod Texts
 pub mod Advice
+pub mod Checks
 pub mod Places
+pub mod Texts
+pub mod Unfit

@@ -4,11 +4,11 @@ ghost use Rattle.std.specs.Prelude.{◌≡◌, IfOk};
 ghost use Rattle.otp_check.specs.Checks.{BeginsWith, Finds};
 
 use crate::finding::{Finding, of_table, of_text};
+use crate::hints::{strange_front, what_no_toml, what_nothing, write_letter};
 use crate::owner::Owner;
 use crate::parts::{Found, scan};
+use crate::source::{Source, line_behind};
 use otp_file::{TableFault, TreeFault, read_located};
-use otp_hints::{strange_front, what_no_toml, what_nothing, write_letter};
-use otp_source::{Source, line_behind};
 use std::alloc::{AllocError, Global};
 use toml::Table;
 

@@ -7,13 +7,14 @@ ghost use Rattle.otp_file.specs.declared.fault.TreeFault.TheVariants.{Unlawful};
 ghost use Rattle.otp_spec.specs.declared.fault.SpecFault.TheVariants.{SimpleNeedsOne};
 
 use crate::advice::{is_detailed, no_only_child, remedy};
+use crate::hints::{
+    Key, is_root_header, meant_child_key, meant_flag, meant_word, nearest, small_letters,
+    strange_letter, strange_sign, what_child_key, what_flag_key, what_value, words_at,
+    write_allowed, write_letter,
+};
 use crate::owner::{Owner, write_owner};
 use crate::shown::{write_shown, write_value};
 use otp_file::{ChildKey, FlagKey, TreeFault};
-use otp_hints::{
-    Key, is_root_header, meant_child_key, meant_flag, meant_word, nearest, small_letters,
-    strange_letter, what_value, words_at, write_allowed, write_letter,
-};
 use otp_reason::NAME_SIZE;
 use otp_spec::SpecFault;
 use otp_text::write_number;
@@ -237,7 +238,7 @@ pub(crate) fn of_value(
     let words = words_at(alloc, key)?;
     write_allowed(key, words.as_slice(), &mut rest)?;
     if let Value::String(word) = value {
-        write_strange(word.as_str(), &mut rest)?;
+        write_strange(key, word.as_str(), &mut rest)?;
         write_meant_word(alloc, key, word.as_str(), words.as_slice(), &mut rest)?;
     }
     rest.extend_from_slice(what_value(key, value).as_bytes())?;
@@ -246,12 +247,24 @@ pub(crate) fn of_value(
     of_read(alloc, fault, owner, rest.as_slice())
 }
 
-/// Appends which letter of a word isn't plain, the first where there are more.
-fn write_strange(word: &str, out: &mut Vec<u8>) -> Result<(), AllocError> {
-    match strange_letter(word) {
-        Some(letter) => {
+/// Appends which letter of a word isn't plain, or may stand in no name; the first where there are more.
+fn write_strange(key: Key, word: &str, out: &mut Vec<u8>) -> Result<(), AllocError> {
+    match (strange_letter(word), key) {
+        (Some(letter), _) => {
             out.extend_from_slice(b"; it has ")?;
             write_letter(letter, out)
+        }
+        (None, Key::Child(ChildKey::Id)) => write_sign(word, out),
+        _ => Ok(()),
+    }
+}
+
+/// Appends which sign an id has that no name has.
+fn write_sign(id: &str, out: &mut Vec<u8>) -> Result<(), AllocError> {
+    match strange_sign(id) {
+        Some(sign) => {
+            out.extend_from_slice(b"; it has ")?;
+            out.push(sign).map_err(|_| AllocError)
         }
         None => Ok(()),
     }
@@ -318,14 +331,23 @@ fn write_meant_key(
     if matches!(owner, Owner::Supervisor(_)) && is_root_header(small.as_str()) {
         return out.extend_from_slice(b"; a supervisor's keys stand under no header of their own");
     }
-    let (home, meant) = match owner {
-        Owner::Child(..) => (Key::of_flag(key), meant_child_key(small.as_str())),
-        Owner::Supervisor(_) => (Key::of_child(key), meant_flag(small.as_str())),
+    let (home, meant, what) = match owner {
+        Owner::Child(..) => (
+            Key::of_flag(key),
+            meant_child_key(small.as_str()),
+            what_child_key(small.as_str()),
+        ),
+        Owner::Supervisor(_) => (
+            Key::of_child(key),
+            meant_flag(small.as_str()),
+            what_flag_key(small.as_str()),
+        ),
     };
-    match (home, meant) {
-        (Some(key), _) => write_home(owner, key, out),
-        (None, Some(meant)) => write_meant(meant, out),
-        (None, None) => write_nearest(alloc, key, keys, out),
+    match (home, meant, what) {
+        (Some(key), _, _) => write_home(owner, key, out),
+        (None, Some(meant), _) => write_meant(meant, out),
+        (None, None, "") => write_nearest(alloc, key, keys, out),
+        (None, None, what) => out.extend_from_slice(what.as_bytes()),
     }
 }
 

@@ -5,12 +5,12 @@ ghost use Rattle.otp_check.specs.Checks.{Holds, Puts};
 
 use crate::advice::key_to_blame;
 use crate::finding::{Finding, of_only_child, of_table, of_unknown, of_value};
+use crate::hints::{Key, child_keys, flag_keys};
 use crate::judging::{judge_child, judge_count, judge_flag, judge_key, judge_names, tree_of};
 use crate::owner::{Owner, write_child};
 use crate::places::{moved_to, place_of};
+use crate::source::{Part, Source};
 use otp_file::{ChildKey, FaultPlace, FlagKey, MAX_DEPTH, TableFault, TreeFault};
-use otp_hints::{Key, child_keys, flag_keys};
-use otp_source::{Part, Source};
 use otp_spec::{MAX_CHILDREN, MAX_TABLES, SpecFault};
 use std::alloc::{AllocError, Global};
 use toml::{Table, Value};

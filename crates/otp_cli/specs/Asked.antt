@@ -1,5 +1,6 @@
 -- What the words of the command line ask for, by what `clap`'s definition of a simple command finds in them (own).
 use Rattle.std.specs.Prelude.{◌≡◌, ℕ, ◌≤◌, Bool, ◌&&◌, ◌||◌, true, false, List, Option, Some, None, count_by, map, option_map, codes, if◌then◌else◌}
+use Rattle.std.specs.List.{list_any}
 use Rattle.std.specs.Borrow.{Bor}
 use Rattle.std.specs.Str.{bytes_eq}
 use Rattle.std.specs.Str.Parse.{IsNumeral, digits_value, without_leading_plus}
@@ -12,8 +13,10 @@ use Rattle.otp_trial.specs.declared.clock.Clock.{Clock}
 use Rattle.otp_trial.specs.declared.clock.Clock.TheVariants.{Milliseconds, Seconds}
 use Rattle.otp_try.specs.declared.play.Writer.{Writer}
 use Rattle.otp_try.specs.declared.play.Writer.TheVariants.{Script, Log, Person}
-use Rattle.otp_roles.specs.Settings.{SettingsView}
+use Rattle.otp_file.specs.Settings.{SettingsView}
 use Rattle.otp_suggest.specs.Times.{time_in}
+use Rattle.otp_suggest.specs.declared.asked.Asked.{Asked}
+use Rattle.otp_suggest.specs.declared.asked.Asked.TheVariants as asked
 use Rattle.otp_cli.specs.declared.words.Command.{Command}
 use Rattle.otp_cli.specs.declared.words.Command.TheVariants as command
 use Rattle.otp_cli.specs.declared.words.Form.{Form}
@@ -119,23 +122,36 @@ IsForm page is_json (form.Page place) = (page ≡ Some (page_name place)) × (is
 abbrev pub IsFormOf : List Row → Form → Type 0
 IsFormOf rows form = (is_json : Bool) × (IsFlagOf rows (codes "json") is_json × IsForm (first_of (codes "html") rows) is_json form)
 
+-- how often a child crashes: by the time between its crashes alone, or by how many come within a time
+abbrev pub IsAskedOf : Option Text → Option Text → Option Text → Asked → Type 0
+IsAskedOf every times within (asked.Every word) = (every ≡ Some word.now) × ((times ≡ None) × (within ≡ None))
+IsAskedOf every times within (asked.Within count time) = (every ≡ None) × ((times ≡ Some count.now) × (within ≡ Some time.now))
+
 -- what a tree file is used for by the command of this name
 abbrev pub AsksUse : Text → List Row → Usage → Type 0
 AsksUse name rows (usage.Try script writer shows form) =
     (name ≡ codes "try") × ((option_map (λ name. name.now) script ≡ script_in (first_of (codes "SCRIPT") rows))
     × (IsFlagOf rows (codes "prompt") (is_person writer) × (AreTrialShowsOf rows shows × IsFormOf rows form)))
 AsksUse name rows (usage.Draw form) = (name ≡ codes "tree") × IsFormOf rows form
-AsksUse name rows (usage.Stop is_json) = (name ≡ codes "shutdown") × IsFlagOf rows (codes "json") is_json
+AsksUse name rows (usage.Stop within is_json) =
+    (name ≡ codes "shutdown") × ((option_map (λ word. word.now) within ≡ first_of (codes "within") rows) × IsFlagOf rows (codes "json") is_json)
 AsksUse name rows (usage.Limit pick grain form) =
     (name ≡ codes "limits") × (IsPickOf (first_of (codes "child") rows) (first_of (codes "table") rows) pick
     × (IsFlagOf rows (codes "each") (plays_each grain) × IsFormOf rows form))
-AsksUse name rows (usage.Suggest child every) =
-    (name ≡ codes "suggest") × ((first_of (codes "child") rows ≡ Some child.now) × (first_of (codes "every") rows ≡ Some every.now))
-AsksUse name rows (usage.Compare other) = (name ≡ codes "diff") × (first_of (codes "OTHER") rows ≡ Some other.now)
-AsksUse name rows (usage.Replay log reading is_listed shows) =
+AsksUse name rows (usage.Suggest child asked is_json) =
+    (name ≡ codes "suggest") × ((first_of (codes "child") rows ≡ Some child.now)
+    × (IsAskedOf (first_of (codes "every") rows) (first_of (codes "times") rows) (first_of (codes "within") rows) asked
+    × (IsFlagOf rows (codes "root") false × IsFlagOf rows (codes "json") is_json)))
+AsksUse name rows (usage.Root child times within is_json) =
+    (name ≡ codes "suggest") × ((first_of (codes "child") rows ≡ Some child.now)
+    × (IsAskedOf (first_of (codes "every") rows) (first_of (codes "times") rows) (first_of (codes "within") rows) (asked.Within times within)
+    × (IsFlagOf rows (codes "root") true × IsFlagOf rows (codes "json") is_json)))
+AsksUse name rows (usage.Compare other is_json) =
+    (name ≡ codes "diff") × ((first_of (codes "OTHER") rows ≡ Some other.now) × IsFlagOf rows (codes "json") is_json)
+AsksUse name rows (usage.Replay log reading is_listed shows is_json) =
     (name ≡ codes "replay") × ((first_of (codes "LOG") rows ≡ Some log.now) × (IsReadingOf rows reading
     × (((is_input log.now && is_input_named reading.ids) ≡ false)
-    × (IsFlagOf rows (codes "unmatched") is_listed × AreTrialShowsOf rows shows))))
+    × (IsFlagOf rows (codes "unmatched") is_listed × (AreTrialShowsOf rows shows × IsFlagOf rows (codes "json") is_json)))))
 AsksUse name rows (usage.Import of_commands) = (name ≡ codes "import") × IsFlagOf rows (codes "commands") of_commands
 
 -- how a tree is run
@@ -159,13 +175,22 @@ AreTimesOf rows serving =
 unfoldable pub wants_input : Usage → Bool
 wants_input (usage.Try None writer shows form) = true
 wants_input (usage.Try (Some script) writer shows form) = is_input script.now
-wants_input (usage.Compare other) = is_input other.now
-wants_input (usage.Replay log reading is_listed shows) = is_input log.now || is_input_named reading.ids
+wants_input (usage.Compare other is_json) = is_input other.now
+wants_input (usage.Replay log reading is_listed shows is_json) = is_input log.now || is_input_named reading.ids
 wants_input _ = false
 
 -- standard input is no more than one of these files
 abbrev pub IsReadOnce : List (Bor Text) → Type 0
 IsReadOnce names = count_by (λ name. is_input name.now) names ≤ 1
+
+-- standard input is one of these files
+abbrev pub has_input : List (Bor Text) → Bool
+has_input names = list_any (λ name. is_input name.now) names
+
+-- the scripts that are judged on the tree of a file, none of which is read twice
+abbrev pub AreScriptsOf : List Row → Text → List (Bor Text) → Type 0
+AreScriptsOf rows file scripts =
+    (all_of (codes "SCRIPT") rows ≡ Some (map (λ script. script.now) scripts)) × (IsReadOnce scripts × ((is_input file && has_input scripts) ≡ false))
 
 -- the subcommand of this name asks for this, with what was found for it
 abbrev pub Asks : Text → List Row → Command → Type 0
@@ -180,9 +205,12 @@ Asks name rows (command.Run file settings shows) =
     (name ≡ codes "run") × (IsFileOf rows file.now × (first_of (codes "for") rows ≡ None × (AreSettingsOf rows settings × AreShownOf rows shows)))
 Asks name rows (command.Serve file settings serving shows) =
     (name ≡ codes "run") × (IsFileOf rows file.now × (AreTimesOf rows serving × (AreSettingsOf rows settings × AreShownOf rows shows)))
+Asks name rows (command.Judge file scripts clock) =
+    (name ≡ codes "try") × (IsFileOf rows file.now × (IsFlagOf rows (codes "tap") true
+    × (AreScriptsOf rows file.now scripts.items × IsClockOf rows clock)))
 Asks name rows (command.Use file what) = IsFileOf rows file.now × (AsksUse name rows what × ((is_input file.now && wants_input what) ≡ false))
 
--- the same of the subcommand that was found in the words, if one was
+-- the subcommand that was found in the words, if one was, asks for this
 abbrev pub AsksFor : Option (Text × List Row) → Command → Type 0
 AsksFor None command = ⊥
 AsksFor (Some found) command = Asks found.0 found.1 command

@@ -17,9 +17,9 @@ file_rule = place_rule (codes "FILE")
 abbrev pub files_rule : Rule
 files_rule = record file_rule { range = Some (record { start_inclusive = 1; end_inclusive = usize_max }) }
 
--- a script, which may be named
+-- scripts, of which none has to be named
 abbrev pub script_rule : Rule
-script_rule = new_rule (codes "SCRIPT")
+script_rule = record (new_rule (codes "SCRIPT")) { range = Some (record { start_inclusive = 1; end_inclusive = usize_max }) }
 
 -- a flag of this long name
 abbrev pub flag_rule : Text → Rule
@@ -29,7 +29,7 @@ flag_rule name = record (new_rule name) { long = Some name; action = Some SetTru
 abbrev pub option_rule : Text → Rule
 option_rule name = record (new_rule name) { long = Some name; value_names = 1 }
 
--- the same of one that has to be given
+-- a text with this long name, which has to be given
 abbrev pub needed_rule : Text → Rule
 needed_rule name = record (option_rule name) { required = true }
 
@@ -69,13 +69,13 @@ tried_app =
     with_rule (with_rule (with_rule played_app (flag_rule (codes "quiet"))) clock_rule) (number_rule (codes "width") 1000 (codes "80"))
 
 abbrev pub try_app : App
-try_app = with_rule (with_rule tried_app (flag_rule (codes "json"))) (option_rule (codes "html"))
+try_app = with_rule (with_rule (with_rule tried_app (flag_rule (codes "tap"))) (flag_rule (codes "json"))) (option_rule (codes "html"))
 
 abbrev pub tree_app : App
 tree_app = with_rule (with_rule (file_app (codes "tree")) (flag_rule (codes "json"))) (option_rule (codes "html"))
 
 abbrev pub shutdown_app : App
-shutdown_app = with_rule (file_app (codes "shutdown")) (flag_rule (codes "json"))
+shutdown_app = with_rule (with_rule (file_app (codes "shutdown")) (option_rule (codes "within"))) (flag_rule (codes "json"))
 
 abbrev pub picked_app : App
 picked_app =
@@ -84,11 +84,16 @@ picked_app =
 abbrev pub limits_app : App
 limits_app = with_rule (with_rule picked_app (flag_rule (codes "json"))) (option_rule (codes "html"))
 
+abbrev pub asked_app : App
+asked_app = with_rule (with_rule (file_app (codes "suggest")) (needed_rule (codes "child"))) (option_rule (codes "every"))
+
 abbrev pub suggest_app : App
-suggest_app = with_rule (with_rule (file_app (codes "suggest")) (needed_rule (codes "child"))) (needed_rule (codes "every"))
+suggest_app =
+    with_rule (with_rule (with_rule (with_rule asked_app (option_rule (codes "times"))) (option_rule (codes "within"))) (flag_rule (codes "root")))
+    (flag_rule (codes "json"))
 
 abbrev pub diff_app : App
-diff_app = with_rule (file_app (codes "diff")) (place_rule (codes "OTHER"))
+diff_app = with_rule (with_rule (file_app (codes "diff")) (place_rule (codes "OTHER"))) (flag_rule (codes "json"))
 
 abbrev pub replayed_app : App
 replayed_app =
@@ -100,7 +105,7 @@ shown_replay_app =
     with_rule (with_rule (with_rule replayed_app (flag_rule (codes "quiet"))) clock_rule) (number_rule (codes "width") 1000 (codes "80"))
 
 abbrev pub replay_app : App
-replay_app = with_rule (with_rule shown_replay_app (option_rule (codes "ids"))) (flag_rule (codes "strict"))
+replay_app = with_rule (with_rule (with_rule shown_replay_app (option_rule (codes "ids"))) (flag_rule (codes "strict"))) (flag_rule (codes "json"))
 
 abbrev pub import_app : App
 import_app = with_rule (file_app (codes "import")) (flag_rule (codes "commands"))

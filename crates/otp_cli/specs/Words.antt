@@ -31,7 +31,7 @@ IsHandedOn OutOfMemory = Unit {0}
 abbrev pub IsOfClap : Error → WordsFault → Type 0
 IsOfClap error fault = (kind_of error ≡ kind.OutOfMemory → fault ≡ OutOfMemory) × (¬ (kind_of error ≡ kind.OutOfMemory) → fault ≡ Clap error)
 
--- the same of an error of the system where the words are taken from it: all else is a word that is no text
+-- what becomes of an error of the system where the words are taken from it: want of memory is told, all else is a word that is no text
 abbrev pub IsOfSystem : SystemError → WordsFault → Type 0
 IsOfSystem error fault = (error_kind error ≡ system.OutOfMemory → fault ≡ OutOfMemory) × (¬ (error_kind error ≡ system.OutOfMemory) → fault ≡ NotText)
 
@@ -52,12 +52,18 @@ meant_text meant.Help = codes "there is no such command; did you mean otp help?"
 meant_text meant.Version = codes "there is no such command; did you mean otp --version?"
 meant_text meant.Script = codes "there is no such topic; did you mean otp help script?"
 meant_text meant.Lines = codes "there is no such topic; did you mean otp help lines?"
+meant_text meant.File = codes "there is no such topic; did you mean otp help file?"
+meant_text meant.Logs = codes "there is no such topic; did you mean otp help logs?"
 meant_text meant.Otp = codes "there is no such topic; did you mean otp help otp?"
 
 -- what is told of a slip
 unfoldable pub slip_text : Slip → List ℕ
 slip_text slip.InputTwice = codes "standard input would be read twice; name a file for one of the two, as in otp try - SCRIPT"
-slip_text slip.TwoForms = codes "--json and --html are two forms of one answer; choose one of them"
-slip_text slip.NoObject = codes "this command has no --json; check, limits, run, shutdown, tree and try have it"
+slip_text slip.TwoForms = codes "--json, --html and --tap are forms of one answer; choose one of them"
+slip_text slip.ManyScripts = codes "several scripts are told of by --tap alone, with a line for each"
+slip_text slip.NoScript = codes "--tap wants a script, or several; - is standard input"
+slip_text slip.NoObject = codes "this command has no --json; check, diff, limits, replay, run, shutdown, suggest, tree and try have it"
+slip_text slip.HowOften = codes "suggest wants --every TIME, or --times N and --within TIME"
+slip_text slip.RootHow = codes "suggest --root wants --times N and --within TIME"
 slip_text slip.Negative = codes "--schedulers, --turns and --width want a whole number from 1 on"
 slip_text (slip.Meant meant) = meant_text meant

@@ -2,7 +2,7 @@
 
 ghost use Rattle.std.specs.Prelude.{◌≡◌, true, false, codes, IfOk};
 ghost use Rattle.clap.specs.Words.{app_of, new_app, rule_of, with_rule, with_subcommand};
-ghost use Rattle.otp_cli.specs.Commands.{bare_app, check_app, checked_app, clock_rule, diff_app, file_app, file_rule, files_rule, flag_rule, import_app, limits_app, needed_rule, number_rule, option_rule, otp_app, picked_app, place_rule, played_app, replay_app, replayed_app, run_app, scheduled_app, shown_app, shown_replay_app, shutdown_app, suggest_app, tree_app, tried_app, try_app};
+ghost use Rattle.otp_cli.specs.Commands.{asked_app, bare_app, check_app, checked_app, clock_rule, diff_app, file_app, file_rule, files_rule, flag_rule, import_app, limits_app, needed_rule, number_rule, option_rule, otp_app, picked_app, place_rule, played_app, replay_app, replayed_app, run_app, scheduled_app, script_rule, shown_app, shown_replay_app, shutdown_app, suggest_app, tree_app, tried_app, try_app};
 
 use crate::help::*;
 use clap::{Arg, ArgAction};
@@ -184,18 +184,25 @@ fn check_command<'a>(alloc: Global) -> Result<clap::Command<'a>, AllocError>
     with_arg(command, flag_arg(alloc, "json", JSON_HELP))
 }
 
-/// `try FILE [SCRIPT] [--prompt] [--timeline]`.
+/// The scripts, or one, or none.
+fn scripts_arg<'a>(alloc: Global) -> Arg<'a>
+    ensures rule { rule_of result ≡ script_rule }
+    ensures local { result.global ≡ false }
+{
+    Arg::new(alloc, "SCRIPT").num_args(1..).help(SCRIPT_HELP)
+}
+
+/// `try FILE [SCRIPT].. [--prompt] [--timeline]`.
 fn played_command<'a>(alloc: Global) -> Result<clap::Command<'a>, AllocError>
     ensures { IfOk result (λ c. app_of c ≡ played_app) }
 {
     let command = file_command(alloc, "try", TRY_ABOUT, TRY_EXAMPLE, FILE_OR_INPUT)?;
-    let script = Arg::new(alloc, "SCRIPT").help(SCRIPT_HELP);
-    let command = with_arg(command, script)?;
+    let command = with_arg(command, scripts_arg(alloc))?;
     let command = with_arg(command, flag_arg(alloc, "prompt", PROMPT_HELP))?;
     with_arg(command, flag_arg(alloc, "timeline", TIMELINE_HELP))
 }
 
-/// `try FILE [SCRIPT] [--prompt] [--timeline] [--quiet] [--clock CLOCK] [--width N]`.
+/// `try FILE [SCRIPT].. [--prompt] [--timeline] [--quiet] [--clock CLOCK] [--width N]`.
 fn tried_command<'a>(alloc: Global) -> Result<clap::Command<'a>, AllocError>
     ensures { IfOk result (λ c. app_of c ≡ tried_app) }
 {
@@ -205,11 +212,12 @@ fn tried_command<'a>(alloc: Global) -> Result<clap::Command<'a>, AllocError>
     with_arg(command, width_arg(alloc))
 }
 
-/// `try`, with `[--json] [--html PAGE]`.
+/// `try`, with `[--tap] [--json] [--html PAGE]`.
 fn try_command<'a>(alloc: Global) -> Result<clap::Command<'a>, AllocError>
     ensures { IfOk result (λ c. app_of c ≡ try_app) }
 {
     let command = tried_command(alloc)?;
+    let command = with_arg(command, flag_arg(alloc, "tap", TAP_HELP))?;
     let command = with_arg(command, flag_arg(alloc, "json", OBJECT_HELP))?;
     with_arg(command, option_arg(alloc, "html", "PAGE", PAGE_HELP))
 }
@@ -242,9 +250,9 @@ fn limits_command<'a>(alloc: Global) -> Result<clap::Command<'a>, AllocError>
     with_arg(command, option_arg(alloc, "html", "PAGE", PAGE_HELP))
 }
 
-/// `suggest FILE --child NAME --every TIME`.
-fn suggest_command<'a>(alloc: Global) -> Result<clap::Command<'a>, AllocError>
-    ensures { IfOk result (λ c. app_of c ≡ suggest_app) }
+/// `suggest FILE --child NAME [--every TIME]`.
+fn asked_command<'a>(alloc: Global) -> Result<clap::Command<'a>, AllocError>
+    ensures { IfOk result (λ c. app_of c ≡ asked_app) }
 {
     let command = file_command(
         alloc,
@@ -254,15 +262,27 @@ fn suggest_command<'a>(alloc: Global) -> Result<clap::Command<'a>, AllocError>
         FILE_OR_INPUT,
     )?;
     let command = with_arg(command, needed_arg(alloc, "child", "NAME", WORKER_HELP))?;
-    with_arg(command, needed_arg(alloc, "every", "TIME", EVERY_HELP))
+    with_arg(command, option_arg(alloc, "every", "TIME", EVERY_HELP))
 }
 
-/// `diff FILE OTHER`.
+/// `suggest`, with `[--times N] [--within TIME] [--root] [--json]`.
+fn suggest_command<'a>(alloc: Global) -> Result<clap::Command<'a>, AllocError>
+    ensures { IfOk result (λ c. app_of c ≡ suggest_app) }
+{
+    let command = asked_command(alloc)?;
+    let command = with_arg(command, option_arg(alloc, "times", "N", TIMES_HELP))?;
+    let command = with_arg(command, option_arg(alloc, "within", "TIME", WITHIN_HELP))?;
+    let command = with_arg(command, flag_arg(alloc, "root", ROOT_HELP))?;
+    with_arg(command, flag_arg(alloc, "json", OBJECT_HELP))
+}
+
+/// `diff FILE OTHER [--json]`.
 fn diff_command<'a>(alloc: Global) -> Result<clap::Command<'a>, AllocError>
     ensures { IfOk result (λ c. app_of c ≡ diff_app) }
 {
     let command = file_command(alloc, "diff", DIFF_ABOUT, DIFF_EXAMPLE, FILE_OR_INPUT)?;
-    with_arg(command, place_arg(alloc, "OTHER", OTHER_HELP))
+    let command = with_arg(command, place_arg(alloc, "OTHER", OTHER_HELP))?;
+    with_arg(command, flag_arg(alloc, "json", OBJECT_HELP))
 }
 
 /// `replay FILE LOG [--unmatched] [--timeline]`.
@@ -285,13 +305,14 @@ fn shown_replay_command<'a>(alloc: Global) -> Result<clap::Command<'a>, AllocErr
     with_arg(command, width_arg(alloc))
 }
 
-/// `replay FILE LOG`, also with `[--ids IDS] [--strict]`.
+/// `replay FILE LOG`, also with `[--ids IDS] [--strict] [--json]`.
 fn replay_command<'a>(alloc: Global) -> Result<clap::Command<'a>, AllocError>
     ensures { IfOk result (λ c. app_of c ≡ replay_app) }
 {
     let command = shown_replay_command(alloc)?;
     let command = with_arg(command, option_arg(alloc, "ids", "IDS", IDS_HELP))?;
-    with_arg(command, flag_arg(alloc, "strict", STRICT_HELP))
+    let command = with_arg(command, flag_arg(alloc, "strict", STRICT_HELP))?;
+    with_arg(command, flag_arg(alloc, "json", OBJECT_HELP))
 }
 
 /// `run FILE [--schedulers N] [--turns N]`.
@@ -324,7 +345,7 @@ fn run_command<'a>(alloc: Global) -> Result<clap::Command<'a>, AllocError>
     with_arg(command, flag_arg(alloc, "json", OBJECT_HELP))
 }
 
-/// `shutdown FILE [--json]`.
+/// `shutdown FILE [--within TIME] [--json]`.
 fn shutdown_command<'a>(alloc: Global) -> Result<clap::Command<'a>, AllocError>
     ensures { IfOk result (λ c. app_of c ≡ shutdown_app) }
 {
@@ -335,6 +356,7 @@ fn shutdown_command<'a>(alloc: Global) -> Result<clap::Command<'a>, AllocError>
         SHUTDOWN_EXAMPLE,
         FILE_OR_INPUT,
     )?;
+    let command = with_arg(command, option_arg(alloc, "within", "TIME", LONGEST_HELP))?;
     with_arg(command, flag_arg(alloc, "json", OBJECT_HELP))
 }
 

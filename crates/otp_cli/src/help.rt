@@ -7,7 +7,7 @@ pub(crate) const OTP_ABOUT: &str =
     "Supervisors of Erlang/OTP by rules that are proved: try them, and run trees";
 
 pub(crate) const OTP_STATUSES: &str =
-    "Example: otp try examples/storm.toml examples/storm_survived.script\nStatuses: 0 done, 1 a file, its tree or its starts, 2 the words, 3 a line of\nsim, the input or 2^62 events, 4 output or memory, 5 a line of a script, 6 what\na line expects, 7 a run that ran out of turns, or of time to stop, 8 nothing of\na script or a log was played.\nThe formats stand in docs/FORMATS.md; `otp check FILE` explains what is wrong in\na tree file, `otp help otp` what OTP does beyond this.";
+    "Example: otp try examples/storm.toml examples/storm_survived.script\nStatuses: 0 done, 1 a file, its tree or its starts, 2 the words, 3 a line of\nsim, the input or 2^62 events, 4 output or memory, 5 a line of a script, 6 what\na line expects, 7 a run that ran out of turns, or of time to stop, 8 nothing of\na script or a log was played.\n`otp check FILE` explains what is wrong in a tree file; the formats stand in\ndocs/FORMATS.md. More help: otp help file (the keys of a tree file), script,\nlines (of sim), logs (of replay), otp (what OTP does beyond this).";
 
 pub(crate) const TRY_ABOUT: &str = "Says what a tree does where a script says what goes wrong";
 
@@ -26,12 +26,12 @@ pub(crate) const FILE_OR_INPUT: &str = "The tree file, in TOML; - is standard in
 pub(crate) const CHECK_ABOUT: &str = "Says all that is wrong in tree files, and where";
 
 pub(crate) const CHECK_EXAMPLE: &str =
-    "Example: otp check examples/storm.toml examples/shop.toml\nA line a fault: FILE:LINE: number, place, what was read, and what to write.\nStatuses: 0 each file says a tree, 1 one says none or can't be read, or with\n--lint there is a remark, 2 the words, 4 output or memory.\nFormats: docs/FORMATS.md, under Tree file, and under Checks and pictures.";
+    "Example: otp check examples/storm.toml examples/shop.toml\nA line a fault: FILE:LINE: number, place, what was read, and what to write.\nStatuses: 0 each file says a tree, 1 one says none or can't be read, or with\n--lint there is a remark, 2 the words, 4 output or memory.\nKeys: otp help file. Formats: docs/FORMATS.md, under Checks and pictures.";
 
 pub(crate) const TREE_ABOUT: &str = "Draws a tree as text";
 
 pub(crate) const TREE_EXAMPLE: &str =
-    "Example: otp tree examples/storm.toml\nStatuses: 0 the tree was drawn, 1 the file says no tree (`otp check FILE` says\nwhy) or can't be read, 2 the words, 4 output or memory.\nFormats: docs/FORMATS.md, under Checks and pictures.";
+    "Example: otp tree examples/storm.toml\nStatuses: 0 the tree was drawn, 1 the file says no tree (`otp check FILE` says\nwhy) or can't be read, 2 the words, 4 output or memory.\nKeys: otp help file. Formats: docs/FORMATS.md, under Checks and pictures.";
 
 pub(crate) const LIMITS_ABOUT: &str =
     "Says what each child's failure costs: which crashes are survived";
@@ -51,18 +51,27 @@ pub(crate) const SHUTDOWN_ABOUT: &str =
     "How long the stop of a tree may take, and who takes how much of it";
 
 pub(crate) const SHUTDOWN_EXAMPLE: &str =
-    "Example: otp shutdown examples/nested.toml\nChildren are told to stop one after another, the last started first; each has\nuntil its deadline. A child with `infinity` may take for ever.\nStatuses: 0 the times were written, 1 the file says no tree (`otp check FILE`\nsays why) or can't be read, 2 the words, 4 output or memory.\nFormats: docs/FORMATS.md, under The longest stop.";
+    "Example: otp shutdown examples/nested.toml\nChildren are told to stop one after another, the last started first; each has\nuntil its deadline. A child with `infinity` may take for ever.\nStatuses: 0 the times were written, 1 the file says no tree (`otp check FILE`\nsays why) or can't be read, 2 the words, 4 output or memory, 6 it may take\nlonger than --within says.\nFormats: docs/FORMATS.md, under The longest stop.";
 
-pub(crate) const SUGGEST_ABOUT: &str =
-    "Which intensity or period survives crashes that come at an interval";
+pub(crate) const LONGEST_HELP: &str =
+    "How long it may take at the most, as 500ms, 30s\nor 5m: else the status is 6";
+
+pub(crate) const SUGGEST_ABOUT: &str = "Which intensity or period survives crashes of a child";
 
 pub(crate) const SUGGEST_EXAMPLE: &str =
-    "Example: otp suggest examples/shop.toml --child db --every 1900ms\nThe least intensity with the period as it is, and the greatest period with the\nintensity as it is: by milliseconds, and by whole seconds, as OTP counts.\nStatuses: 0 it was written, 1 the file says no tree (`otp check FILE` says why)\nor can't be read, 2 the words, 3 2^62 events, 4 output or memory.\nFormats: docs/FORMATS.md, under Suggestions.";
+    "Example: otp suggest examples/shop.toml --child db --times 5 --within 2m\nThe least intensity with the period as it is, and the greatest period with the\nintensity as it is: by milliseconds, and by whole seconds, as OTP counts. Of\n--times they say `at once` what is enough whenever the crashes come within that\ntime, as nothing is closer together, and beside it what is where they are evenly\nspread. With --root the whole tree is played, all of them at once: of each\nsupervisor from the child's own up to the root the least intensity with which\nthe root survives, all else as it is; the last line says the least change.\nStatuses: 0 it was written, 1 the file says no tree (`otp check FILE` says why)\nor can't be read, 2 the words, 3 2^62 events, 4 output or memory.\nFormats: docs/FORMATS.md, under Suggestions.";
 
 pub(crate) const WORKER_HELP: &str = "The worker that crashes, as pool/worker";
 
 pub(crate) const EVERY_HELP: &str =
-    "The time between its crashes: 500ms, 2s, 5m, 1h, or\nmilliseconds";
+    "The time between its crashes, which never end: 500ms,\n2s, 5m, 1h, or milliseconds";
+
+pub(crate) const TIMES_HELP: &str = "How many crashes there are, 1 to 1000";
+
+pub(crate) const WITHIN_HELP: &str = "The time within which they come, at any moments";
+
+pub(crate) const ROOT_HELP: &str =
+    "Which intensity of which supervisor, up to the root, has\nthe root survive them; of --times";
 
 pub(crate) const DIFF_ABOUT: &str =
     "What differs in two tree files, and in what each failure costs";
@@ -76,7 +85,7 @@ pub(crate) const REPLAY_ABOUT: &str =
     "What a tree would have done, had happened to it what a log tells";
 
 pub(crate) const REPLAY_EXAMPLE: &str =
-    "Example: otp replay examples/shop.toml examples/shop.log\nA line is a time and what happened: 2026-11-26T20:49:00.125Z crash db, or\n12.250 exit pool/a normal. The first line that is played is the time zero.\nStatuses: 0 all such lines were played, 1 a file or its tree, 2 the words, or a\nline whose time can't be, 3 2^62 events, 4 output or memory, 5 a line could do\nnothing, 6 what a line expects (`up db`) is not so, 8 none was played.\nLogs of OTP, Elixir, supervisord, systemd and otp-procs are read as they are.\nFormats: docs/FORMATS.md, under Replays.";
+    "Example: otp replay examples/shop.toml examples/shop.log\nA line is a time and what happened: 2026-11-26T20:49:00.125Z crash db, or\n12.250 exit pool/a normal. The first line that is played is the time zero.\nStatuses: 0 all such lines were played, 1 a file or its tree, 2 the words, or a\nline whose time can't be, 3 2^62 events, 4 output or memory, 5 a line could do\nnothing, 6 what a line expects (`up db`) is not so, 8 none was played.\nLogs of OTP, Elixir, supervisord, systemd and otp-procs are read as they are.\nAll logs: otp help logs. Formats: docs/FORMATS.md, under Replays.";
 
 pub(crate) const LOG_FILE_HELP: &str = "The log; - is standard input, up to 1 MiB";
 
@@ -108,13 +117,16 @@ pub(crate) const SIM_EXAMPLE: &str =
 pub(crate) const FILES_OR_INPUT: &str = "Tree files, in TOML; - is standard input";
 
 pub(crate) const SCRIPT_HELP: &str =
-    "A script; without one, or for -, its lines are standard input";
+    "A script, with --tap several; without one, or for -,\nits lines are standard input";
 
 pub(crate) const PROMPT_HELP: &str =
     "Shows how the supervisor stands before each line, and\ngoes on after one that is refused; so it is at a terminal";
 
 pub(crate) const TIMELINE_HELP: &str =
     "Draws the run: a column for each line of the script, a\nrow for each child";
+
+pub(crate) const TAP_HELP: &str =
+    "Says of each SCRIPT alone whether all was so as it\nexpects, in TAP (status 6 if one fails)";
 
 pub(crate) const QUIET_HELP: &str =
     "Tells ends of supervisors, what is not as expected,\nand the verdict alone";

@@ -8,7 +8,7 @@ ghost use Rattle.otp_cli.specs.Words.{IsHandedOn};
 use crate::getters::{is_set, schedulers_in, time_given, turns_in, value_of};
 use crate::words::{Command, RunShows, Serving, WordsFault};
 use clap::ArgMatches;
-use otp_roles::Settings;
+use otp_file::roles::Settings;
 use otp_suggest::read_time;
 
 /// What is told of a run besides.

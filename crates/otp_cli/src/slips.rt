@@ -1,7 +1,7 @@
 //! Slips in the words that `clap` takes, or of which it tells less than it could: what was meant, and what to do instead.
 
 ghost use Rattle.std.specs.Prelude.{◌≡◌, false};
-ghost use Rattle.otp_cli.specs.Asked.{IsReadOnce, is_input, is_input_named, wants_input};
+ghost use Rattle.otp_cli.specs.Asked.{IsReadOnce, has_input, is_input, is_input_named, wants_input};
 ghost use Rattle.otp_cli.specs.Words.{meant_text, slip_text};
 
 use crate::words::Usage;
@@ -16,8 +16,16 @@ pub enum Slip {
     InputTwice,
     /// An answer is wanted in two forms.
     TwoForms,
+    /// Several scripts are named, and a verdict on each isn't asked for.
+    ManyScripts,
+    /// A verdict on each script is asked for, and none is named.
+    NoScript,
     /// The command writes no object.
     NoObject,
+    /// `suggest` isn't told how often a child crashes, or in two ways.
+    HowOften,
+    /// `suggest --root` is told of an interval.
+    RootHow,
     /// A number is negative.
     Negative,
     /// There is no such command, or topic of help, and this was meant.
@@ -44,6 +52,10 @@ pub enum Meant {
     Script,
     /// The topic with the lines of `sim`.
     Lines,
+    /// The topic with the keys of a tree file.
+    File,
+    /// The topic with the logs of `replay`.
+    Logs,
     /// The topic with what OTP does beyond this.
     Otp,
 }
@@ -57,9 +69,14 @@ impl Slip {
         match self {
             Slip::InputTwice =>
                 "standard input would be read twice; name a file for one of the two, as in otp try - SCRIPT",
-            Slip::TwoForms => "--json and --html are two forms of one answer; choose one of them",
+            Slip::TwoForms =>
+                "--json, --html and --tap are forms of one answer; choose one of them",
+            Slip::ManyScripts => "several scripts are told of by --tap alone, with a line for each",
+            Slip::NoScript => "--tap wants a script, or several; - is standard input",
             Slip::NoObject =>
-                "this command has no --json; check, limits, run, shutdown, tree and try have it",
+                "this command has no --json; check, diff, limits, replay, run, shutdown, suggest, tree and try have it",
+            Slip::HowOften => "suggest wants --every TIME, or --times N and --within TIME",
+            Slip::RootHow => "suggest --root wants --times N and --within TIME",
             Slip::Negative => "--schedulers, --turns and --width want a whole number from 1 on",
             Slip::Meant(meant) => meant.text(),
         }
@@ -88,6 +105,8 @@ impl Meant {
             Meant::Version => "there is no such command; did you mean otp --version?",
             Meant::Script => "there is no such topic; did you mean otp help script?",
             Meant::Lines => "there is no such topic; did you mean otp help lines?",
+            Meant::File => "there is no such topic; did you mean otp help file?",
+            Meant::Logs => "there is no such topic; did you mean otp help logs?",
             Meant::Otp => "there is no such topic; did you mean otp help otp?",
         }
     }
@@ -121,10 +140,10 @@ pub(crate) fn wants_input(usage: &Usage<'_>) -> bool
             script: Some(script),
             ..
         } => is_input(script),
-        Usage::Compare { other } => is_input(other),
+        Usage::Compare { other, .. } => is_input(other),
         Usage::Replay { log, reading, .. } => is_input(log) || is_input_named(reading.ids),
         Usage::Draw { .. } | Usage::Stop { .. } | Usage::Limit { .. } => false,
-        Usage::Suggest { .. } | Usage::Import { .. } => false,
+        Usage::Suggest { .. } | Usage::Root { .. } | Usage::Import { .. } => false,
     }
 }
 
@@ -135,11 +154,26 @@ pub(crate) fn reads_twice(names: &[&str]) -> bool
     names.iter().filter(|name| is_input(name)).count() > 1
 }
 
+/// Whether standard input is one of these files.
+pub(crate) fn has_input(names: &[&str]) -> bool
+    ensures { result ≡ has_input names.now }
+{
+    names.iter().any(|name| is_input(name))
+}
+
+/// Whether there are several.
+pub(crate) fn are_several(names: Option<&[&str]>) -> bool {
+    match names {
+        None => false,
+        Some(names) => names.len() > 1,
+    }
+}
+
 /// A word, and what is meant where it or one that is near stands in the place of a command or a topic.
 type Known = (&'static str, Meant);
 
 /// The commands, and words that others use for them.
-const COMMANDS: [Known; 19] = [
+const COMMANDS: [Known; 26] = [
     ("try", Meant::Try),
     ("run", Meant::Run),
     ("check", Meant::Check),
@@ -159,14 +193,29 @@ const COMMANDS: [Known; 19] = [
     ("help", Meant::Help),
     ("version", Meant::Version),
     ("script", Meant::Script),
+    ("start", Meant::Run),
+    ("stop", Meant::Shutdown),
+    ("log", Meant::Replay),
+    ("logs", Meant::Replay),
+    ("crash", Meant::Try),
+    ("draw", Meant::Tree),
+    ("show", Meant::Tree),
 ];
 
 /// What `help` explains besides commands.
-const TOPICS: [Known; 6] = [
+const TOPICS: [Known; 14] = [
     ("script", Meant::Script),
     ("scripts", Meant::Script),
     ("lines", Meant::Lines),
     ("events", Meant::Lines),
+    ("file", Meant::File),
+    ("files", Meant::File),
+    ("tree-file", Meant::File),
+    ("toml", Meant::File),
+    ("keys", Meant::File),
+    ("flags", Meant::File),
+    ("logs", Meant::Logs),
+    ("log", Meant::Logs),
     ("otp", Meant::Otp),
     ("erlang", Meant::Otp),
 ];
@@ -178,7 +227,7 @@ const HELPED: [&str; 12] = [
 ];
 
 /// Those of them that write no object.
-const OF_TEXT: [&str; 5] = ["suggest", "diff", "replay", "import", "sim"];
+const OF_TEXT: [&str; 2] = ["import", "sim"];
 
 /// The options that want a number.
 const OF_NUMBERS: [&str; 3] = ["--schedulers", "--turns", "--width"];

@@ -1,7 +1,8 @@
 //! What is explained beside commands: `otp help script` says which lines a script may have, `otp help lines` which lines `sim`
-//! takes, and `otp help otp` what OTP does beyond this.
+//! takes, `otp help file` which keys a tree file has, `otp help logs` which logs `replay` reads, and `otp help otp` what OTP
+//! does beyond this.
 
-/// The lines of a script of `try`, as docs/FORMATS.md has them.
+/// The lines of a script of `try`. docs/FORMATS.md has what is to be said besides.
 pub(crate) const SCRIPT: &str = "\
 Lines of a script, for otp try FILE SCRIPT:
 
@@ -9,6 +10,7 @@ crash CHILD [REASON]   its process ends; with error:crash if no reason is given
 exit CHILD REASON      its process ends with this reason
 fail ID [REASON]       its next start fails; with error:fail if none is given
 ignore ID              its next start answers ignore
+init ID TIME           each of its starts takes so long from now on
 hang CHILD             it doesn't end when it is next asked to
 slow CHILD TIME        it ends so long after it is next asked to
 stop                   the parent asks the supervisor to shut down
@@ -41,7 +43,7 @@ Example:
   stop
 ";
 
-/// The lines that `sim` takes, as docs/FORMATS.md has them.
+/// The lines that `sim` takes. docs/FORMATS.md has what is to be said besides.
 pub(crate) const LINES: &str = "\
 Lines of standard input, for otp sim FILE < LINES:
 
@@ -72,7 +74,111 @@ Example:
   stop
 ";
 
-/// What OTP does and this doesn't, as docs/OTP.md has it.
+/// The keys of a tree file. docs/FORMATS.md has what is to be said besides.
+pub(crate) const FILE: &str = "\
+A tree file: a TOML document, whose top table is the root.
+
+Keys of a supervisor, the root's in front of the first [[child]]:
+
+strategy       who is started again where a child ends: one_for_one (default),
+               that child alone; one_for_all, all of them; rest_for_one, that
+               child and those behind it. With simple_one_for_one there are as
+               many children of one kind as calls start
+intensity      so many restarts within a period are borne, 0 to 1000 (default
+               1); one more ends the supervisor, and all its children with it
+period         seconds, 1 to 1000000 (default 5)
+auto_shutdown  never (default); any_significant, all_significant: it ends once
+               one, or each, of its significant children has ended by itself
+
+Keys of a child, behind a line [[child]]:
+
+id             its name: 1 to 32 of a-z A-Z 0-9 _ - . (has to be there)
+start          a name for what starts it (has to be there): the module of OTP's
+               {M, F, A}; of otp run a word of `otp help run`
+restart        permanent (default): whenever it ends. transient: where it ends
+               by an error, and not by normal, shutdown or shutdown:TEXT.
+               temporary: never; a restart of its siblings deletes it
+significant    false (default); true: its end counts for auto_shutdown, which
+               then may not be never, nor the child be permanent. The end of a
+               transient one counts where it isn't started again
+shutdown       how long its stop may take: milliseconds, 0 to 4294967295
+               (default 5000), after which it is killed; infinity, as long as it
+               takes; brutal_kill, not at all
+type           worker (default), supervisor
+modules        an array of at most 4 names, or dynamic (default: that of start)
+tree           the keys of a supervisor, for a child that is one: the line
+               [child.tree], and [[child.tree.child]] for each of its children.
+               Its shutdown is infinity
+
+Children start in the order of the file, each once the one before it is up, and
+stop the other way round. Words stand in quotes; numbers, true and false don't.
+Where a supervisor ends that another has as a child, that is an end of a child.
+
+Example:
+
+  strategy = \"rest_for_one\"
+  intensity = 3
+  period = 10
+
+  [[child]]
+  id = \"db\"
+  start = \"steady\"
+  shutdown = 10000
+
+  [[child]]
+  id = \"pool\"
+  start = \"pool\"
+
+  [child.tree]
+  strategy = \"one_for_all\"
+
+  [[child.tree.child]]
+  id = \"w1\"
+  start = \"steady\"
+  restart = \"transient\"
+
+`otp check FILE` tells what is wrong in one, `otp import` makes one of what
+Erlang, Elixir, supervisord or systemd says.
+";
+
+/// The logs that `replay` reads. docs/FORMATS.md has what is to be said besides.
+pub(crate) const LOGS: &str = "\
+Logs, for otp replay FILE LOG. The first line that reads as one of these decides
+which one the log is:
+
+plain lines      a timestamp, and behind it crash CHILD [REASON], exit CHILD
+                 REASON, stop, or up CHILD: it is expected to run. A timestamp
+                 is an instant, as 2026-11-26T20:49:00.125Z (also with a space
+                 for the T, or an offset), or seconds, as 12.250
+OTP, Elixir      what Logger writes, as text or as an object of JSON a line:
+                 reports of supervisors, child_terminated, start_error, started
+supervisord      its log: exited, and the signal that ends it
+systemd          journalctl, also with -o short-iso or -o json: a main process
+                 that exited, a service that was deactivated
+otp-procs        up, fail, exit, stop, also with --json
+
+Other lines are left out; those that look as if they could be played are told,
+and why they aren't. --unmatched lists all.
+
+Names. In plain lines a child has its path, as pool/w1. In others it is found by
+that or by its id; where it is called otherwise, `--ids IDS` reads a file of
+lines NAME PATH: NAME as the log has it, also SUP/NAME with its supervisor's;
+PATH as the tree has it, or - to leave it out. An end of a child that isn't in
+the tree is left out there; with --strict it gives status 5, as in plain lines.
+
+Times. The first line that is played is time zero, and what is told has both the
+seconds since then and the log's own time. A time without an offset is UTC; one
+that is earlier than the line before is taken as that line's, and refused in
+plain lines.
+
+Example:
+
+  2026-11-26T20:49:00.125Z crash db
+  2026-11-26T20:49:02Z exit pool/w1 normal
+  2026-11-26T20:49:03Z up db
+";
+
+/// What OTP does and this doesn't.
 pub(crate) const OTP: &str = "\
 What Erlang/OTP does beyond this:
 
@@ -103,6 +209,8 @@ pub(crate) fn topic(word: &str) -> Option<&'static str> {
     match word {
         "script" => Some(SCRIPT),
         "lines" => Some(LINES),
+        "file" => Some(FILE),
+        "logs" => Some(LOGS),
         "otp" => Some(OTP),
         _ => None,
     }

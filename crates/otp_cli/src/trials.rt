@@ -1,16 +1,17 @@
 //! What the words after `try` and `replay` ask for.
 
-ghost use Rattle.std.specs.Prelude.{◌≡◌, codes, option_map, IfErr, IfOk};
+ghost use Rattle.std.specs.Prelude.{◌≡◌, codes, option_map, true, IfErr, IfOk};
 ghost use Rattle.clap.specs.Words.{found_of, rows_of};
-ghost use Rattle.otp_cli.specs.Asked.{AreTrialShowsOf, AsksUse, clock_in, clock_named, is_person, script_in};
+ghost use Rattle.otp_cli.specs.Asked.{AreTrialShowsOf, Asks, AsksUse, IsFileOf, IsFlagOf, clock_in, clock_named, is_person, script_in};
 ghost use Rattle.otp_cli.specs.Words.{IsHandedOn};
 
-use crate::getters::{form_in, is_set, value_of, width_in};
-use crate::slips::{Slip, is_input, is_input_named};
-use crate::words::{LogReading, TrialShows, Usage, WordsFault};
+use crate::getters::{form_in, is_set, value_of, values_of, width_in};
+use crate::slips::{Slip, are_several, has_input, is_input, is_input_named, reads_twice};
+use crate::words::{Command, Form, LogReading, TrialShows, Usage, WordsFault};
 use clap::ArgMatches;
 use otp_trial::Clock;
 use otp_try::Writer;
+use std::alloc::Global;
 
 /// The script of this name, of which `-` is none but standard input.
 fn script_of<'a>(named: Option<&'a str>) -> Option<&'a str>
@@ -76,11 +77,50 @@ fn trial_shows_in(found: &ArgMatches<'_>) -> Result<TrialShows, WordsFault>
     })
 }
 
+/// Whether an answer is wanted as text.
+fn is_text(form: Form<'_>) -> bool {
+    matches!(form, Form::Text)
+}
+
+/// What the words after `try` ask for where a verdict on each script is wanted.
+pub(crate) fn read_judge<'a>(
+    alloc: Global,
+    file: &'a str,
+    found: &ArgMatches<'a>,
+) -> Result<Command<'a>, WordsFault>
+    requires file { IsFileOf (rows_of (found_of found.now)) file.now }
+    requires tap { IsFlagOf (rows_of (found_of found.now)) (codes "tap") true }
+    ensures asked { IfOk result (Asks (codes "try") (rows_of (found_of found.now))) }
+    ensures handed_on { IfErr result IsHandedOn }
+{
+    let Some(names) = values_of(found, "SCRIPT") else {
+        return Err(WordsFault::Slip(Slip::NoScript));
+    };
+    if reads_twice(names) || is_input(file) && has_input(names) {
+        return Err(WordsFault::Slip(Slip::InputTwice));
+    }
+    if !is_text(form_in(found)?) {
+        return Err(WordsFault::Slip(Slip::TwoForms));
+    }
+    let Some(clock) = clock_named(value_of(found, "clock")) else {
+        return Err(WordsFault::UnknownClock);
+    };
+    let scripts = Vec::from_slice(alloc, names)?;
+    Ok(Command::Judge {
+        file,
+        scripts,
+        clock,
+    })
+}
+
 /// What the words after `try` ask for.
 pub(crate) fn read_try<'a>(found: &ArgMatches<'a>) -> Result<Usage<'a>, WordsFault>
     ensures asked { IfOk result (AsksUse (codes "try") (rows_of (found_of found.now))) }
     ensures handed_on { IfErr result IsHandedOn }
 {
+    if are_several(values_of(found, "SCRIPT")) {
+        return Err(WordsFault::Slip(Slip::ManyScripts));
+    }
     let shows = trial_shows_in(found)?;
     let form = form_in(found)?;
     Ok(Usage::Try {
@@ -112,5 +152,6 @@ pub(crate) fn read_replay<'a>(found: &ArgMatches<'a>) -> Result<Usage<'a>, Words
         reading,
         is_listed: is_set(found, "unmatched"),
         shows,
+        is_json: is_set(found, "json"),
     })
 }

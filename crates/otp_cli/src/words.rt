@@ -13,11 +13,12 @@ use crate::questions::{read_diff, read_limits, read_suggest, read_tree};
 use crate::runs::read_run;
 use crate::slips::{Slip, find_slip, is_input, reads_twice, wants_input};
 use crate::topics::topic;
-use crate::trials::{read_replay, read_try};
+use crate::trials::{read_judge, read_replay, read_try};
 use clap::error::ErrorKind;
 use clap::{ArgMatches, Error};
 use otp_costs::{Grain, Pick};
-use otp_roles::Settings;
+use otp_file::roles::Settings;
+use otp_suggest::Asked;
 use otp_trial::Clock;
 use otp_try::Writer;
 use std::alloc::{AllocError, Global};
@@ -58,34 +59,51 @@ pub enum Usage<'a> {
     Draw {
         form: Form<'a>,
     },
-    /// It is found how long its stop may take.
+    /// How long its stop may take.
     Stop {
+        /// How long it may take, where that is asked.
+        within: Option<&'a str>,
         /// The answer is an object of JSON.
         is_json: bool,
     },
-    /// It is found what the failure of its children costs, or of some of them.
+    /// What the failure of its children costs, or of some of them.
     Limit {
         pick: Pick<'a>,
         grain: Grain,
         form: Form<'a>,
     },
-    /// It is found which flags would survive crashes of a child.
+    /// Which flags would survive crashes of a child.
     Suggest {
         child: &'a str,
-        /// The time between crashes, as it is given.
-        every: &'a str,
+        /// How often it crashes, as it is given.
+        asked: Asked<'a>,
+        /// The answer is an object of JSON.
+        is_json: bool,
+    },
+    /// Which change of one intensity is the least that has the root survive crashes of a child.
+    Root {
+        child: &'a str,
+        /// How many there are, and the time within which they come, as they are given.
+        times: &'a str,
+        within: &'a str,
+        /// The answer is an object of JSON.
+        is_json: bool,
     },
     /// Its tree is compared with that of another file.
     Compare {
         other: &'a str,
+        /// The answer is an object of JSON.
+        is_json: bool,
     },
-    /// It is played on its tree what a log tells.
+    /// What a log tells is played on its tree.
     Replay {
         log: &'a str,
         reading: LogReading<'a>,
         /// The lines that aren't played are listed.
         is_listed: bool,
         shows: TrialShows,
+        /// The answer is an object of JSON.
+        is_json: bool,
     },
     /// What another program says in it of a tree is written as a tree file.
     Import {
@@ -146,7 +164,7 @@ pub struct Serving {
     pub time: u64,
     /// How many milliseconds its stop may take; as long as it takes, where none are said.
     pub grace: Option<u64>,
-    /// It is told what happens to each process.
+    /// What happens to each process is told.
     pub is_logged: bool,
 }
 
@@ -174,6 +192,12 @@ pub enum Command<'a> {
         settings: Settings,
         serving: Serving,
         shows: RunShows,
+    },
+    /// Each of these scripts is played on the tree of the file of this name, and told: whether all is as it expects.
+    Judge {
+        file: &'a str,
+        scripts: Vec<&'a str>,
+        clock: Clock,
     },
     /// Something else, of the tree file of this name.
     Use {
@@ -317,10 +341,12 @@ fn read_command<'a>(
     let usage = match name {
         "sim" => return Ok(Command::Sim { file }),
         "run" => return read_run(file, found),
+        "try" if is_set(found, "tap") => return read_judge(alloc, file, found),
         "try" => read_try(found)?,
         "replay" => read_replay(found)?,
         "tree" => read_tree(found)?,
         "shutdown" => Usage::Stop {
+            within: value_of(found, "within"),
             is_json: is_set(found, "json"),
         },
         "import" => Usage::Import {

@@ -11,9 +11,9 @@ use Rattle.otp_run.specs.Schedulers.{SchedulerState}
 use Rattle.otp_hand.specs.Begun.{root_at, start_share, starts_credited}
 use Rattle.otp_close.specs.Totals.{starts_of, unsent_of}
 use Rattle.otp_close.specs.Closes.{all_senders}
-use Rattle.otp_hand.specs.Hands.{ClientView, HandView, senders_of}
+use Rattle.otp_hand.specs.Hands.{TreeClientView, HandView, senders_of}
 use Rattle.otp_close.specs.declared.parting.Rest.{Rest}
-use Rattle.otp_report.specs.declared.report.TableReport.{TableReport}
+use Rattle.otp_close.specs.declared.report.report.TableReport.{TableReport}
 use Rattle.otp_close.specs.Partings.{ArePaired}
 use Rattle.otp_close.specs.Settlings.{senders_in}
 
@@ -43,10 +43,10 @@ module _ {J S : Type 0} where
   at_map n (h ∷ hs) all zero = all zero
   at_map n (h ∷ hs) all (suc k) = at_map n hs (λ j. all (suc j)) k
 
-  pub hands_as_far : (tables count : ℕ) (client : ClientView) (hands : List (HandView J S)) → tables + 1 ≡ count → AllAt (λ _ senders. length senders ≡ tables + 1) (all_senders client hands) → AllAt (λ _ h. length (senders_of h) ≡ count) hands
+  pub hands_as_far : (tables count : ℕ) (client : TreeClientView) (hands : List (HandView J S)) → tables + 1 ≡ count → AllAt (λ _ senders. length senders ≡ tables + 1) (all_senders client hands) → AllAt (λ _ h. length (senders_of h) ≡ count) hands
   hands_as_far tables count client hands is far = map_at senders_of (λ _ senders. length senders ≡ count) hands (as_far_as (tables + 1) count (map senders_of hands) is (others_as_far (tables + 1) client.senders (map senders_of hands) far))
 
-  pub all_as_far : (tables count : ℕ) (client : ClientView) (hands : List (HandView J S)) → count ≡ length client.senders → length client.senders ≡ tables + 1 → AllAt (λ _ h. length (senders_of h) ≡ count) hands → AllAt (λ _ senders. length senders ≡ tables + 1) (all_senders client hands)
+  pub all_as_far : (tables count : ℕ) (client : TreeClientView) (hands : List (HandView J S)) → count ≡ length client.senders → length client.senders ≡ tables + 1 → AllAt (λ _ h. length (senders_of h) ≡ count) hands → AllAt (λ _ senders. length senders ≡ tables + 1) (all_senders client hands)
   all_as_far tables count client hands is reach far zero = reach
   all_as_far tables count client hands is reach far (suc k) = as_far_as count (tables + 1) (map senders_of hands) (is ∙ reach) (at_map count hands far) k
 

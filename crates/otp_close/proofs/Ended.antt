@@ -17,7 +17,7 @@ use Rattle.otp_hand.specs.Sendings.{sent_at}
 use Rattle.otp_close.specs.Partings.{ArePaired, hand_of, joined}
 use Rattle.otp_close.specs.Settlings.{held_in, senders_in}
 use Rattle.otp_close.specs.declared.parting.Rest.{Rest}
-use Rattle.otp_report.specs.declared.report.TableReport.{TableReport}
+use Rattle.otp_close.specs.declared.report.report.TableReport.{TableReport}
 
 -- what each of these senders sent is what the supervisor at its place took and left
 pub told_each : (ss : List (SenderState Message)) (ts : List TableReport) → length ss ≡ length ts → AllAt (λ k t. AsOften (items_in (sent_at k ss)) (line_of t)) ts → ends_sent ss ≡ sum_by ends_of ts

@@ -10,7 +10,7 @@ use Rattle.otp_run.specs.Lists.{AllAt}
 use Rattle.otp_run.proofs.Places.{each_at, map-append, set_at}
 use Rattle.otp_hand.proofs.Sendings.{sent_joined, together-append}
 use Rattle.otp_close.specs.Closes.{all_senders}
-use Rattle.otp_hand.specs.Hands.{ClientView, HandView, senders_of}
+use Rattle.otp_hand.specs.Hands.{TreeClientView, HandView, senders_of}
 use Rattle.otp_hand.specs.Sendings.{sent_at, sent_in, sent_to, parts_at, parts_of, parts_to, with_sender}
 use Rattle.otp_close.specs.Settlings.{HasAll, IsJoined, IsWhole}
 
@@ -129,7 +129,7 @@ module _ {J S : Type 0} where
   by_hands place (h ∷ hs) = length-append (sent_at place h.senders) (sent_to place (map senders_of hs)) ∙ ap (λ n. length (sent_at place h.senders) + n) (by_hands place hs) ∙ sym (sum_by-cons (sent_by place) h hs)
 
   -- what was counted is what was sent, where it is below the limit
-  pub count_told : (place : ℕ) (client : ClientView) (hands counted : List (HandView J S)) (count : ℕ) → counted ≡ hands → count ≡ min (min (length (sent_at place client.senders)) count_limit + sum_by (counted_by place) counted) (2 ^ 64 - 1) → count < count_limit → length (sent_to place (all_senders client hands)) ≡ count
+  pub count_told : (place : ℕ) (client : TreeClientView) (hands counted : List (HandView J S)) (count : ℕ) → counted ≡ hands → count ≡ min (min (length (sent_at place client.senders)) count_limit + sum_by (counted_by place) counted) (2 ^ 64 - 1) → count < count_limit → length (sent_to place (all_senders client hands)) ≡ count
   count_told place client hands counted count same is small =
       let whole = ap (λ l. sum_by (counted_by place) l) same in
       let sum : sum_by (counted_by place) hands ≡ sum_by (sent_by place) hands = exact_sum (sent_by place) count_limit hands (omega (arith, is, small, whole)) in

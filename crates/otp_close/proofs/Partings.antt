@@ -3,7 +3,7 @@ use Rattle.std.proofs.Common.{◌≡◌, ℕ, zero, suc, ◌<◌, List, [], ◌�
 use Rattle.std.proofs.lemmas.List.{append-nil}
 use Rattle.otp_run.specs.Schedulers.{SchedulerState}
 use Rattle.otp_close.specs.declared.parting.Rest.{Rest}
-use Rattle.otp_counts.specs.Counts.{Reading}
+use Rattle.otp_signals.specs.Counts.{Reading}
 use Rattle.otp_inbox.specs.Tokens.{SenderState}
 use Rattle.otp_bodies.specs.declared.letter.Message.{Message}
 use Rattle.otp_hand.specs.Begun.{HasCredited}

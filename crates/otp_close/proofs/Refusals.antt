@@ -9,14 +9,14 @@ use Rattle.otp_close.specs.declared.closing.CloseFault.TheVariants as fault
 use Rattle.otp_close.specs.declared.closing.Refusal.{Refusal}
 use Rattle.otp_close.specs.declared.closing.Refusal.TheVariants as refusal
 use Rattle.otp_close.specs.declared.closing.Intact.{Intact}
-use Rattle.otp_report.specs.declared.report.Report.{Report}
+use Rattle.otp_close.specs.declared.report.report.Report.{Report}
 use Rattle.otp_close.specs.Closes.{IsIntact, IsMismatchOnly, IsMissingOnly, IsReached, IsRefusalOf, NoneMissing, all_senders, kept_in, report_in}
 use Rattle.otp_close.specs.Gathers.{IsHandsRefused}
-use Rattle.otp_hand.specs.Hands.{HandView, ClientView, SystemView}
+use Rattle.otp_hand.specs.Hands.{HandView, TreeClientView, SystemView}
 
 module _ {J S : Type 0} where
   -- what is known of as many supervisors and the same hands
-  pub reached-by : (tables count : ℕ) (hands list : List (HandView J S)) (client : ClientView) → count ≡ tables → list ≡ hands → IsReached tables client (all_senders client hands) → IsReached count client (all_senders client list)
+  pub reached-by : (tables count : ℕ) (hands list : List (HandView J S)) (client : TreeClientView) → count ≡ tables → list ≡ hands → IsReached tables client (all_senders client hands) → IsReached count client (all_senders client list)
   reached-by tables count hands list client many same reached =
       let Hands : List (HandView J S) → Type 0 = λ l. IsReached tables client (all_senders client l) in
       let Tables : ℕ → Type 0 = λ n. IsReached n client (all_senders client list) in
@@ -24,7 +24,7 @@ module _ {J S : Type 0} where
 
 module _ {N J S : Type 0} where
   -- where it was refused there is no report
-  pub refused-report : (cause : Refusal) (shared : SystemView) (hands : List (HandView J S)) (client : ClientView) (r : CloseFault J S (Intact N J S)) (P : Report J S → Type 0) → IsRefusalOf cause shared hands client r → IfSome (report_in (Err r)) P
+  pub refused-report : (cause : Refusal) (shared : SystemView) (hands : List (HandView J S)) (client : TreeClientView) (r : CloseFault J S (Intact N J S)) (P : Report J S → Type 0) → IsRefusalOf cause shared hands client r → IfSome (report_in (Err r)) P
   refused-report refusal.OutOfMemory shared hands client (fault.OutOfMemory k) P refused = tt
   refused-report refusal.OutOfMemory shared hands client (fault.Missing k) P refused = tt
   refused-report refusal.OutOfMemory shared hands client (fault.Misplaced k d) P refused = tt
@@ -39,7 +39,7 @@ module _ {N J S : Type 0} where
   refused-report (refusal.Misplaced e) shared hands client (fault.Mismatch m report) P refused = absurd refused
 
   -- nor a mismatch
-  pub refused-mismatch : (cause : Refusal) (shared : SystemView) (hands : List (HandView J S)) (client : ClientView) (r : CloseFault J S (Intact N J S)) → IsRefusalOf cause shared hands client r → IsMismatchOnly r
+  pub refused-mismatch : (cause : Refusal) (shared : SystemView) (hands : List (HandView J S)) (client : TreeClientView) (r : CloseFault J S (Intact N J S)) → IsRefusalOf cause shared hands client r → IsMismatchOnly r
   refused-mismatch refusal.OutOfMemory shared hands client (fault.OutOfMemory k) refused = tt
   refused-mismatch refusal.OutOfMemory shared hands client (fault.Missing k) refused = tt
   refused-mismatch refusal.OutOfMemory shared hands client (fault.Misplaced k d) refused = tt
@@ -53,11 +53,11 @@ module _ {N J S : Type 0} where
   refused-mismatch (refusal.Misplaced e) shared hands client (fault.Misplaced k d) refused = tt
   refused-mismatch (refusal.Misplaced e) shared hands client (fault.Mismatch m report) refused = absurd refused
 
-  intact_as : (shared : SystemView) (back hands : List (HandView J S)) (client : ClientView) (k : Intact N J S) → back ≡ hands → IsIntact shared back client k → IsIntact shared hands client k
+  intact_as : (shared : SystemView) (back hands : List (HandView J S)) (client : TreeClientView) (k : Intact N J S) → back ≡ hands → IsIntact shared back client k → IsIntact shared hands client k
   intact_as shared back hands client k same was = record { shared_is = was.shared_is; hands_are = was.hands_are ∙ same; client_is = was.client_is }
 
   -- all comes back, as it was
-  pub refused-back : (cause : Refusal) (shared : SystemView) (back hands : List (HandView J S)) (client : ClientView) (r : CloseFault J S (Intact N J S)) → back ≡ hands → IsRefusalOf cause shared back client r → IfSome (kept_in r) (IsIntact shared hands client)
+  pub refused-back : (cause : Refusal) (shared : SystemView) (back hands : List (HandView J S)) (client : TreeClientView) (r : CloseFault J S (Intact N J S)) → back ≡ hands → IsRefusalOf cause shared back client r → IfSome (kept_in r) (IsIntact shared hands client)
   refused-back refusal.OutOfMemory shared back hands client (fault.OutOfMemory k) same refused = intact_as shared back hands client k same refused
   refused-back refusal.OutOfMemory shared back hands client (fault.Missing k) same refused = absurd refused
   refused-back refusal.OutOfMemory shared back hands client (fault.Misplaced k d) same refused = absurd refused
@@ -72,7 +72,7 @@ module _ {N J S : Type 0} where
   refused-back (refusal.Misplaced e) shared back hands client (fault.Mismatch m report) same refused = tt
 
   -- a part is said to be missing only where the schedulers aren't all
-  pub refused-missing : (complete : Type 0) (schedulers : List SchedulerState) (cause : Refusal) (shared : SystemView) (hands : List (HandView J S)) (client : ClientView) (r : CloseFault J S (Intact N J S)) → (complete → IsAll schedulers) → IsHandsRefused schedulers cause → IsRefusalOf cause shared hands client r → IsMissingOnly complete r
+  pub refused-missing : (complete : Type 0) (schedulers : List SchedulerState) (cause : Refusal) (shared : SystemView) (hands : List (HandView J S)) (client : TreeClientView) (r : CloseFault J S (Intact N J S)) → (complete → IsAll schedulers) → IsHandsRefused schedulers cause → IsRefusalOf cause shared hands client r → IsMissingOnly complete r
   refused-missing complete schedulers refusal.OutOfMemory shared hands client (fault.OutOfMemory k) all why refused = tt
   refused-missing complete schedulers refusal.OutOfMemory shared hands client (fault.Missing k) all why refused = absurd refused
   refused-missing complete schedulers refusal.OutOfMemory shared hands client (fault.Misplaced k d) all why refused = tt
@@ -87,7 +87,7 @@ module _ {N J S : Type 0} where
   refused-missing complete schedulers (refusal.Misplaced e) shared hands client (fault.Mismatch m report) all why refused = tt
 
   -- a part is said to be missing where one is
-  pub unreached-missing : (complete : Type 0) (shared : SystemView) (hands : List (HandView J S)) (client : ClientView) (r : CloseFault J S (Intact N J S)) → (complete → ⊥) → IsRefusalOf refusal.Missing shared hands client r → IsMissingOnly complete r
+  pub unreached-missing : (complete : Type 0) (shared : SystemView) (hands : List (HandView J S)) (client : TreeClientView) (r : CloseFault J S (Intact N J S)) → (complete → ⊥) → IsRefusalOf refusal.Missing shared hands client r → IsMissingOnly complete r
   unreached-missing complete shared hands client (fault.OutOfMemory k) isnt refused = tt
   unreached-missing complete shared hands client (fault.Missing k) isnt refused = isnt
   unreached-missing complete shared hands client (fault.Misplaced k d) isnt refused = tt

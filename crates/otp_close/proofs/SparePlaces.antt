@@ -10,11 +10,11 @@ use Rattle.std.proofs.lemmas.List.Elements.{All-take}
 use Rattle.std.proofs.lemmas.List.Sums.{sum_by-cons}
 use Rattle.std.proofs.lemmas.Option.{slice_get_within}
 use Rattle.otp_core.specs.View.{View, stored_of}
-use Rattle.otp_office.proofs.Anew.{nothing_happened}
+use Rattle.otp_bodies.proofs.Anew.{nothing_happened}
 use Rattle.otp_hand.specs.Ended.{ends_in}
-use Rattle.otp_office.specs.Events.{items_of}
-use Rattle.otp_report.specs.declared.report.Report.{Report}
-use Rattle.otp_report.specs.declared.report.TableReport.{TableReport}
+use Rattle.otp_bodies.specs.Events.{items_of}
+use Rattle.otp_close.specs.declared.report.report.Report.{Report}
+use Rattle.otp_close.specs.declared.report.report.TableReport.{TableReport}
 use Rattle.otp_rules.specs.Needs.{numbers_of}
 use Rattle.otp_rules.specs.declared.event.Event.{Event}
 use Rattle.otp_rules.specs.declared.event.Item.{Item}

@@ -8,7 +8,7 @@ use Rattle.otp_bodies.specs.declared.letter.Message.{Message}
 use Rattle.otp_run.proofs.Places.{map_at}
 use Rattle.otp_run.specs.Gathers.{IsAll}
 use Rattle.otp_run.specs.Lists.{AllAt}
-use Rattle.otp_hand.specs.Hands.{ClientView, HandView, SystemView, senders_of}
+use Rattle.otp_hand.specs.Hands.{TreeClientView, HandView, SystemView, senders_of}
 use Rattle.otp_hand.specs.Sendings.{parts_at, parts_of, parts_to}
 use Rattle.otp_hand.specs.Standings.{Reach, Standing, inbox_of, part_of, parts_in, reach_of, standing_of, standings}
 use Rattle.otp_close.specs.Closes.{IsComplete, IsReached, all_senders}
@@ -68,7 +68,7 @@ module _ {J S : Type 0} where
       ∙ ap (λ n. parts_by k (standing_of h) + n) (parts_together k hs)
       ∙ sym (sum_by-cons (parts_by k) (standing_of h) (standings hs))
 
-  all_parts_as : (k : ℕ) (one other : List (HandView J S)) (old new : ClientView) → standings other ≡ standings one → reach_of new ≡ reach_of old → parts_to k (all_senders new other) ≡ parts_to k (all_senders old one)
+  all_parts_as : (k : ℕ) (one other : List (HandView J S)) (old new : TreeClientView) → standings other ≡ standings one → reach_of new ≡ reach_of old → parts_to k (all_senders new other) ≡ parts_to k (all_senders old one)
   all_parts_as k one other old new same client =
       sum_by-cons (parts_at k) new.senders (map senders_of other)
       ∙ ap (λ n. n + parts_to k (map senders_of other)) (same_parts k new.senders old.senders (ap (λ (r : Reach). r.parts) client))
@@ -100,7 +100,7 @@ module _ {J S : Type 0} where
       back (x ∷ xs) h zero = sym (length-map x.senders part_of) ∙ h zero
       back (x ∷ xs) h (suc k) = back xs (λ j. h (suc j)) k
 
-  pub complete_kept : (shared : SystemView) (one other : List (HandView J S)) (old new : ClientView) → standings other ≡ standings one → reach_of new ≡ reach_of old → IsComplete shared one old → IsComplete shared other new
+  pub complete_kept : (shared : SystemView) (one other : List (HandView J S)) (old new : TreeClientView) → standings other ≡ standings one → reach_of new ≡ reach_of old → IsComplete shared one old → IsComplete shared other new
   complete_kept shared one other old new same client complete =
       let n = shared.tables + 1 in
       let reached = complete.1 in

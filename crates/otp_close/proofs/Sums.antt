@@ -5,7 +5,7 @@ use Rattle.std.proofs.lemmas.List.Sums.{sum_by-cons}
 use Rattle.otp_inbox.specs.Tokens.{SenderState}
 use Rattle.otp_bodies.specs.declared.letter.Message.{Message}
 use Rattle.otp_close.specs.Closes.{all_senders}
-use Rattle.otp_hand.specs.Hands.{HandView, ClientView, senders_of}
+use Rattle.otp_hand.specs.Hands.{HandView, TreeClientView, senders_of}
 use Rattle.otp_hand.specs.Sendings.{parts_at, parts_to}
 
 module _ {J S : Type 0} where
@@ -16,5 +16,5 @@ module _ {J S : Type 0} where
   by_hands f [] = refl
   by_hands f (h ∷ hs) = sum_by-cons f h.senders (map senders_of hs) ∙ ap (λ n. f h.senders + n) (by_hands f hs) ∙ sym (sum_by-cons (λ g. f g.senders) h hs)
 
-  pub parts_by_hands : (place : ℕ) (client : ClientView) (hands : List (HandView J S)) → parts_to place (all_senders client hands) ≡ parts_at place client.senders + sum_by (parts_by place) hands
+  pub parts_by_hands : (place : ℕ) (client : TreeClientView) (hands : List (HandView J S)) → parts_to place (all_senders client hands) ≡ parts_at place client.senders + sum_by (parts_by place) hands
   parts_by_hands place client hands = sum_by-cons (parts_at place) client.senders (map senders_of hands) ∙ ap (λ n. parts_at place client.senders + n) (by_hands (parts_at place) hands)

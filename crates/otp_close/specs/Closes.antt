@@ -10,36 +10,36 @@ use Rattle.otp_signals.specs.Lists.{NoneInBoth}
 use Rattle.otp_spec.specs.Supervisor.{Supervisor}
 use Rattle.otp_sup.specs.Plans.{IsBegunBy}
 use Rattle.otp_bodies.specs.Ends.{AreTold}
-use Rattle.otp_office.specs.Offices.{Begins}
+use Rattle.otp_bodies.specs.Offices.{Begins}
 use Rattle.otp_close.specs.declared.closing.CloseFault.{CloseFault}
 use Rattle.otp_close.specs.declared.closing.CloseFault.TheVariants as fault
 use Rattle.otp_close.specs.declared.closing.Refusal.{Refusal}
 use Rattle.otp_close.specs.declared.closing.Refusal.TheVariants as refusal
 use Rattle.otp_close.specs.declared.closing.Intact.{Intact}
-use Rattle.otp_report.specs.declared.report.Report.{Report}
-use Rattle.otp_report.specs.declared.report.TableReport.{TableReport}
+use Rattle.otp_close.specs.declared.report.report.Report.{Report}
+use Rattle.otp_close.specs.declared.report.report.TableReport.{TableReport}
 use Rattle.otp_close.specs.Totals.{HasAllStarts, HasAllEnds}
-use Rattle.otp_hand.specs.Hands.{HandView, ClientView, SystemView, senders_of}
+use Rattle.otp_hand.specs.Hands.{HandView, TreeClientView, SystemView, senders_of}
 use Rattle.otp_close.specs.Leavings.{HasUnsent}
 use Rattle.otp_close.specs.Partings.{schedulers_of}
 use Rattle.otp_hand.specs.Sendings.{parts_to}
-use Rattle.otp_report.specs.Tellings.{AreSo, IsMismatch}
+use Rattle.otp_close.specs.Tellings.{AreSo, IsMismatch}
 
 -- the senders of the client and of each hand
-abbrev pub all_senders : {J S : Type 0} → ClientView → List (HandView J S) → List (List (SenderState Message))
+abbrev pub all_senders : {J S : Type 0} → TreeClientView → List (HandView J S) → List (List (SenderState Message))
 all_senders client hands = client.senders ∷ map senders_of hands
 
 -- the client is the one that a tree of so many supervisors was opened with, and all senders together have the whole right
 -- to send to each of them, and to whoever opened the tree
-pub record IsReached (tables : ℕ) (client : ClientView) (all : List (List (SenderState Message))) : Type 0 where
+pub record IsReached (tables : ℕ) (client : TreeClientView) (all : List (List (SenderState Message))) : Type 0 where
   pub waits : MatchOption client.waiter ⊥ (λ w. w.inbox ≡ tables)
   pub reach : length client.senders ≡ tables + 1
   pub whole : (place : ℕ) → place < length client.senders → parts_to place all ≡ all_parts
-  -- and none of them reaches further
+  -- none of these senders reaches further
   pub as_far : AllAt (λ _ senders. length senders ≡ tables + 1) all
 
 -- all parts of a tree are there
-abbrev pub IsComplete : {J S : Type 0} → SystemView → List (HandView J S) → ClientView → Type 0
+abbrev pub IsComplete : {J S : Type 0} → SystemView → List (HandView J S) → TreeClientView → Type 0
 IsComplete shared hands client = IsAll (schedulers_of hands) × IsReached shared.tables client (all_senders client hands)
 
 -- each core began as a supervisor that was never opened
@@ -130,7 +130,7 @@ module _ {J S : Type 0} where
     pub ends : HasAllEnds report
 
 -- the tree, as it was, as far as contracts see it
-pub record IsIntact {N J S : Type 0} (shared : SystemView) (hands : List (HandView J S)) (client : ClientView) (k : Intact N J S) : Type 0 where
+pub record IsIntact {N J S : Type 0} (shared : SystemView) (hands : List (HandView J S)) (client : TreeClientView) (k : Intact N J S) : Type 0 where
   -- it has as many slots of signal words, and as many supervisors; what lies under a lock is known by its type alone
   pub shared_is : k.shared ≡ shared
   -- each hand has its scheduler, its senders, its processes, its letter and its passes; of what its viewer saw nothing is said
@@ -139,7 +139,7 @@ pub record IsIntact {N J S : Type 0} (shared : SystemView) (hands : List (HandVi
   pub client_is : k.client ≡ client
 
 -- nothing was taken apart for this cause, and all comes back
-abbrev pub IsRefusalOf : {N J S : Type 0} → Refusal → SystemView → List (HandView J S) → ClientView → CloseFault J S (Intact N J S) → Type 0
+abbrev pub IsRefusalOf : {N J S : Type 0} → Refusal → SystemView → List (HandView J S) → TreeClientView → CloseFault J S (Intact N J S) → Type 0
 IsRefusalOf refusal.OutOfMemory shared hands client (fault.OutOfMemory k) = IsIntact shared hands client k
 IsRefusalOf refusal.Missing shared hands client (fault.Missing k) = IsIntact shared hands client k
 IsRefusalOf (refusal.Misplaced e) shared hands client (fault.Misplaced k d) = IsIntact shared hands client k

@@ -6,12 +6,12 @@ use Rattle.otp_rules.specs.declared.event.Item.{Item}
 use Rattle.otp_bodies.specs.declared.letter.Message.{Message}
 use Rattle.otp_run.specs.Lists.{AllAt}
 use Rattle.otp_bodies.specs.Messages.{items_in}
-use Rattle.otp_office.specs.Events.{items_of}
+use Rattle.otp_bodies.specs.Events.{items_of}
 use Rattle.otp_sup.specs.Told.{ends_told_in}
-use Rattle.otp_office.specs.Offices.{KeepsOffice, OfficeView}
-use Rattle.otp_office.specs.Orders.{starts_in}
+use Rattle.otp_bodies.specs.Offices.{KeepsOffice, OfficeView}
+use Rattle.otp_bodies.specs.Orders.{starts_in}
 use Rattle.otp_hand.specs.Sendings.{sent_to}
-use Rattle.otp_report.specs.declared.report.TableReport.{TableReport}
+use Rattle.otp_close.specs.declared.report.report.TableReport.{TableReport}
 
 -- what a supervisor took, as its history has it, and then what it left in its inbox
 abbrev pub line_of : TableReport → List Item
@@ -35,11 +35,11 @@ pub record HasCome (sent : List Message) (t : TableReport) : Type 0 where
   pub told : t.ends_told.items ≡ ends_told_in t.core taken
   pub left : IsLeft sent taken t.left.items
 
--- the same of all supervisors of a tree, whose messages these senders sent
+-- what all supervisors of a tree took and left are the messages that these senders sent
 abbrev pub HaveCome : List (List (SenderState Message)) → List TableReport → Type 0
 HaveCome all tables = AllAt (λ k (t : TableReport). HasCome (sent_to k all) t) tables
 
--- the same of the inbox of whoever opened a tree of so many supervisors
+-- what whoever opened a tree of so many supervisors took from the own inbox and left there is what was sent to it
 abbrev pub IsLast : ℕ → List (List (SenderState Message)) → Option (TakerState Message) → List Item → Type 0
 IsLast tables all waiter last = MatchOption waiter ⊥ (λ (w : TakerState Message). AsOften (items_in (sent_to tables all)) (items_in w.taken ++ last))
 
@@ -59,7 +59,7 @@ lists_to place all = together (map (lists_at place) all)
 abbrev pub AreInOrder : List (List (SenderState Message)) → List TableReport → Type 0
 AreInOrder all tables = AllAt (λ k (t : TableReport). EachInOrder (map items_in (lists_to k all)) (line_of t)) tables
 
--- the same of the inbox of whoever opened a tree of so many supervisors
+-- what was sent to whoever opened a tree of so many supervisors stands in that inbox in the order in which it was sent
 abbrev pub IsLastInOrder : ℕ → List (List (SenderState Message)) → Option (TakerState Message) → List Item → Type 0
 IsLastInOrder tables all waiter last = MatchOption waiter ⊥ (λ (w : TakerState Message). EachInOrder (map items_in (lists_to tables all)) (items_in w.taken ++ last))
 

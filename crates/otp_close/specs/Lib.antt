@@ -1,8 +1,11 @@
-pub mod Partings
-pub mod Leavings
-pub mod Tables
-pub mod Totals
-pub mod Gathers
-pub mod Settlings
 pub mod Closes
+pub mod Gathers
+pub mod Leavings
+pub mod Marks
+pub mod Partings
+pub mod Reports
+pub mod Settlings
 pub mod Spares
+pub mod Tables
+pub mod Tellings
+pub mod Totals

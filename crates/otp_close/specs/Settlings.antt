@@ -8,7 +8,7 @@ use Rattle.otp_close.specs.declared.parting.Rest.{Rest}
 use Rattle.otp_close.specs.declared.rooms.LeftRoom.{LeftRoom}
 use Rattle.otp_close.specs.declared.unlocking.Loose.{Loose}
 use Rattle.otp_hand.specs.Ended.{ends_held}
-use Rattle.otp_hand.specs.Hands.{ClientView}
+use Rattle.otp_hand.specs.Hands.{TreeClientView}
 use Rattle.otp_hand.specs.Sendings.{parts_at, parts_to, sent_at, sent_to}
 use Rattle.otp_close.specs.Leavings.{lists_at, lists_to}
 use Rattle.otp_close.specs.Tables.{shares_at, shares_to}
@@ -61,7 +61,7 @@ module _ {B : Type 0} where
   abbrev pub IsRoomAt : List (List (SenderState Message)) → ℕ → UnlockedView → LeftRoom B → Type 0
   IsRoomAt all k u r = (u.table.taker.inbox ≡ u.inbox) × IsRoom (length (sent_to k all)) (length u.table.taker.taken) r
 
-  -- the same of each
+  -- each supervisor takes from its own inbox, and there is room for what is left in it
   abbrev pub AreRooms : List (List (SenderState Message)) → List UnlockedView → List (LeftRoom B) → Type 0
   AreRooms all sups rooms = AllAt (λ k r. MatchOption (slice_get sups k) ⊥ (λ u. IsRoomAt all k u r)) rooms
 
@@ -76,7 +76,7 @@ module _ {B : Type 0} where
     pub whole : s.parts ≡ all_parts
     pub room : IsRoom (length (all_sent s)) (length u.table.taker.taken) r
 
-  -- the same of each
+  -- all is there to empty the inbox of each supervisor
   abbrev pub AreReady : List UnlockedView → List (SenderState Message) → List (LeftRoom B) → Type 0
   AreReady sups senders rooms = (k : ℕ) → IfSome (slice_get sups k) (λ u. MatchOption (slice_get senders k) ⊥ (λ s. MatchOption (slice_get rooms k) ⊥ (λ r. IsReady u s r)))
 
@@ -85,7 +85,7 @@ abbrev pub ArePlaced : List UnlockedView → ℕ → Type 0
 ArePlaced sups outer = AllAt (λ k (u : UnlockedView). u.inbox ≡ k) sups × (outer ≡ length sups)
 
 -- a tree whose supervisors are out of their locks, with room for all that is left
-pub record IsLoose {N J S : Type 0} (client : ClientView) (all : List (List (SenderState Message))) (l : Loose N J S) : Type 0 where
+pub record IsLoose {N J S : Type 0} (client : TreeClientView) (all : List (List (SenderState Message))) (l : Loose N J S) : Type 0 where
   pub placed : ArePlaced l.sups.items l.outer
   pub many_rooms : length l.rooms.items ≡ length l.sups.items
   pub rooms : AreRooms all l.sups.items l.rooms.items

@@ -1,6 +1,6 @@
 -- Places of a closed tree that had no supervisor. (own)
 use Rattle.std.specs.Prelude.{◌≡◌, ℕ, ◌≤◌, List, [], IfSome, length, min, slice_get, take}
-use Rattle.otp_report.specs.declared.report.TableReport.{TableReport}
+use Rattle.otp_close.specs.declared.report.report.TableReport.{TableReport}
 
 -- it had no event, nothing is left for it, and it had nothing to send
 pub record IsUnused (t : TableReport) : Type 0 where

@@ -5,10 +5,10 @@ use Rattle.otp_inbox.specs.Tokens.{SenderState, no_shares}
 use Rattle.otp_bodies.specs.declared.letter.Message.{Message}
 use Rattle.otp_run.specs.Lists.{AllAt}
 use Rattle.otp_spec.specs.Supervisor.{Supervisor}
-use Rattle.otp_office.specs.Orders.{starts_in}
+use Rattle.otp_bodies.specs.Orders.{starts_in}
 use Rattle.otp_sup.specs.Facts.{KeepsRules, TableView}
 use Rattle.otp_hand.specs.Sendings.{sent_to}
-use Rattle.otp_report.specs.declared.report.TableReport.{TableReport}
+use Rattle.otp_close.specs.declared.report.report.TableReport.{TableReport}
 use Rattle.otp_close.specs.Leavings.{IsLeft}
 
 abbrev pub shares_in : Option (SenderState Message) → Shares
@@ -25,7 +25,7 @@ starts_at place senders = (shares_at place senders).starts
 abbrev pub turns_at : ℕ → List (SenderState Message) → ℕ
 turns_at place senders = (shares_at place senders).turns
 
--- the same of several lists of senders together: starts that this supervisor sent, and turns that it had
+-- what several lists of senders together were credited with: starts that this supervisor sent, and turns that it had
 abbrev pub shares_to : ℕ → List (List (SenderState Message)) → Shares
 shares_to place all = record { starts = sum_by (starts_at place) all; turns = sum_by (turns_at place) all }
 
@@ -41,7 +41,7 @@ pub record IsOfTable (plans : ℕ → Option Supervisor) (inbox : ℕ) (sent : L
   pub ends : t.ends_told.items ≡ table.ends_told
   -- so many orders it had still to send
   pub unsent_orders : t.unsent_orders ≡ length table.office.outbox
-  -- and so many starts are among them
+  -- so many starts are among these orders
   pub unsent : t.unsent ≡ length (starts_in table.office.outbox)
   -- what was sent to it is what it took, in its order, and what it left
   pub left : IsLeft sent table.taker.taken t.left.items
@@ -49,6 +49,6 @@ pub record IsOfTable (plans : ℕ → Option Supervisor) (inbox : ℕ) (sent : L
   -- inbox empty
   pub given : credited ≡ table.taker.given
 
--- the same of all supervisors of a tree, to which these senders sent, and which were credited for them
+-- each report is that of a supervisor of the tree, to which these senders sent, and which were credited for it
 abbrev pub AreOfTables : (ℕ → Option Supervisor) → List (List (SenderState Message)) → List TableReport → Type 0
 AreOfTables plans all tables = AllAt (λ k (t : TableReport). IsOfTable plans k (sent_to k all) (shares_to k all) t) tables

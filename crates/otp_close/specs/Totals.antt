@@ -5,8 +5,8 @@ use Rattle.otp_bodies.specs.declared.letter.Message.{Message}
 use Rattle.otp_rules.specs.Needs.{numbers_of}
 use Rattle.otp_hand.specs.Ended.{ends_among, ends_in}
 use Rattle.otp_close.specs.Leavings.{line_of}
-use Rattle.otp_report.specs.declared.report.Report.{Report}
-use Rattle.otp_report.specs.declared.report.TableReport.{TableReport}
+use Rattle.otp_close.specs.declared.report.report.Report.{Report}
+use Rattle.otp_close.specs.declared.report.report.TableReport.{TableReport}
 
 -- the starts of a supervisor's history, and those of them that were still to be sent
 abbrev pub starts_of : TableReport → ℕ

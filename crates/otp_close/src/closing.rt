@@ -18,21 +18,21 @@ ghost use Rattle.otp_hand.specs.Standings.{standings};
 ghost use Rattle.otp_hand.specs.Sendings.{sent_at};
 ghost use Rattle.otp_close.specs.Partings.{schedulers_of};
 ghost use Rattle.otp_close.specs.Settlings.{AreReady, IsLoose, IsReady, held_in, senders_in};
-ghost use Rattle.otp_report.specs.Tellings.{AreSo};
+ghost use Rattle.otp_close.specs.Tellings.{AreSo};
 ghost use Rattle.otp_sup.specs.Plans.{AreAllPlanned, IsBegunBy};
 
 use crate::complete::is_reached;
 use crate::joining::{Joined, join_all};
 use crate::parting::{Gathered, HandsFault, gather_hands};
+use crate::report::{Mismatch, Report, TableReport};
 use crate::rooms::LeftRoom;
 use crate::settling::settle;
 use crate::spares::without_spares;
 use crate::unlocking::{Loose, Unready, loosen};
 use otp_hand::places::next_of;
-use otp_hand::{Client, Hand, Shared, TreeNaming};
+use otp_hand::{Hand, Shared, TreeClient, TreeNaming};
 use otp_inbox::Sender;
 use otp_job::Body;
-use otp_report::{Mismatch, Report, TableReport};
 use otp_run::LiveTotal;
 use otp_signals::{Owner, Words};
 use otp_sup::{Displaced, Letter, Message, SupNaming, SupParts, Unlocked};
@@ -85,7 +85,7 @@ pub(crate) enum Refusal {
 pub struct Intact<N: TreeNaming, J: Drop, S: Drop> {
     pub shared: Shared<N, J, S>,
     pub hands: Vec<Hand<N, J, S>>,
-    pub client: Client<N, Body<J, S>>,
+    pub client: TreeClient<N, Body<J, S>>,
 }
 
 /// Takes the tree apart, and reports what it was, with what is left in each inbox. So many of its places, the first, are known to have
@@ -108,7 +108,7 @@ pub fn close<N: TreeNaming, J: Drop, S: Drop, R: Wait>(
     alloc: Global,
     shared: Shared<N, J, S>,
     hands: Vec<Hand<N, J, S>>,
-    client: Client<N, Body<J, S>>,
+    client: TreeClient<N, Body<J, S>>,
     known: usize,
 ) -> Result<Report<J, S>, CloseFault<J, S, Intact<N, J, S>>>
     requires { IsFreeFrom N.plan shared.tables known }
@@ -178,7 +178,7 @@ pub fn finish<N: TreeNaming, J: Drop, S: Drop, R: Wait>(
     alloc: Global,
     shared: Shared<N, J, S>,
     hands: Vec<Hand<N, J, S>>,
-    client: Client<N, Body<J, S>>,
+    client: TreeClient<N, Body<J, S>>,
     known: usize,
 ) -> Result<Report<J, S>, CloseFault<J, S, ()>>
     requires { IsFreeFrom N.plan shared.tables known }
@@ -212,7 +212,7 @@ fn report_of<N: SupNaming, J: Drop, S: Drop, R: Wait>(
     rt: &R,
     loose: Loose<N, J, S>,
     gathered: Gathered<N, J, S>,
-    client: Client<N, Body<J, S>>,
+    client: TreeClient<N, Body<J, S>>,
 ) -> Report<J, S>
     requires loose { IsLoose client (client.senders ∷ map senders_in gathered.rests.items) loose }
     requires begun { gathered.total.begun ≡ 1 + sum_by starts_credited (map senders_in gathered.rests.items) }
@@ -256,7 +256,7 @@ fn report_of<N: SupNaming, J: Drop, S: Drop, R: Wait>(
         ended,
         left,
     } = total;
-    let Client {
+    let TreeClient {
         owner,
         senders,
         waiter,
@@ -371,7 +371,7 @@ fn refuse<N: TreeNaming, J: Drop, S: Drop>(
     cause: Refusal,
     shared: Shared<N, J, S>,
     hands: Vec<Hand<N, J, S>>,
-    client: Client<N, Body<J, S>>,
+    client: TreeClient<N, Body<J, S>>,
 ) -> CloseFault<J, S, Intact<N, J, S>>
     ensures { IsRefusalOf cause shared hands.items client result }
 {

@@ -6,7 +6,7 @@ ghost use Rattle.otp_run.specs.Lists.{AllAt};
 ghost use Rattle.otp_hand.specs.Hands.{senders_of};
 ghost use Rattle.otp_hand.specs.Sendings.{parts_to};
 
-use otp_hand::{Client, Hand, TreeNaming};
+use otp_hand::{Hand, TreeClient, TreeNaming};
 use otp_inbox::{ALL_PARTS, InboxNaming};
 use otp_job::Body;
 use otp_signals::WordsNaming;
@@ -16,7 +16,7 @@ use otp_signals::WordsNaming;
 pub(crate) fn is_reached<N: TreeNaming, J: Drop, S: Drop>(
     tables: usize,
     hands: &[Hand<N, J, S>],
-    client: &Client<N, Body<J, S>>,
+    client: &TreeClient<N, Body<J, S>>,
 ) -> bool
     ensures { IsTrue result ↔ IsReached tables client.now (all_senders client.now hands.now) }
 {
@@ -33,7 +33,7 @@ pub(crate) fn is_reached<N: TreeNaming, J: Drop, S: Drop>(
 }
 
 /// Whether the client sends to so many supervisors, and to whoever opened the tree.
-fn reaches<N: WordsNaming + InboxNaming, B: Drop>(client: &Client<N, B>, tables: usize) -> bool
+fn reaches<N: WordsNaming + InboxNaming, B: Drop>(client: &TreeClient<N, B>, tables: usize) -> bool
     ensures { IsTrue result ↔ (length client.now.senders ≡ tables + 1) }
 {
     let count = client.senders.len();
@@ -62,7 +62,7 @@ fn sends_to<N: TreeNaming, J: Drop, S: Drop>(hand: &Hand<N, J, S>, count: usize)
 /// Whether hands and client together have the whole right to send to each of those to which the client sends.
 fn has_all_parts<N: TreeNaming, J: Drop, S: Drop>(
     hands: &[Hand<N, J, S>],
-    client: &Client<N, Body<J, S>>,
+    client: &TreeClient<N, Body<J, S>>,
 ) -> bool
     ensures { IsTrue result ↔ ((place : ℕ) → place < length client.now.senders → parts_to place (all_senders client.now hands.now) ≡ all_parts) }
 {
@@ -78,7 +78,7 @@ fn has_all_parts<N: TreeNaming, J: Drop, S: Drop>(
 fn parts_to<N: TreeNaming, J: Drop, S: Drop>(
     place: usize,
     hands: &[Hand<N, J, S>],
-    client: &Client<N, Body<J, S>>,
+    client: &TreeClient<N, Body<J, S>>,
 ) -> u64
     ensures { result ≡ min (parts_to place (all_senders client.now hands.now)) (2 ^ 64 - 1) }
 {

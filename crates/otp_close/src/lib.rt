@@ -15,6 +15,7 @@ pub mod closing;
 mod complete;
 mod joining;
 mod parting;
+pub mod report;
 mod rooms;
 mod settling;
 mod spares;

@@ -10,15 +10,15 @@ ghost use Rattle.otp_close.specs.Partings.{joined, schedulers_of, ArePaired};
 ghost use Rattle.otp_close.specs.Settlings.{held_in, senders_in};
 
 use crate::closing::Refusal;
-use otp_counts::CountsPass;
 use otp_hand::places::next_of;
+use otp_hand::waiting::{Around, Resting, Waiting};
 use otp_hand::{Hand, Runner, Senders, TreeNaming, Unsent};
 use otp_inbox::InboxNaming;
 use otp_job::{Body, Process};
 use otp_run::{GatherFault, LiveTotal, Scheduler, gather};
+use otp_signals::counts::CountsPass;
 use otp_signals::{Viewer, WordsNaming};
 use otp_tally::Tally;
-use otp_waiting::{Around, Resting, Waiting};
 use std::alloc::{AllocError, Global};
 
 /// What a hand has beside its scheduler.

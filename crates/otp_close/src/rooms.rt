@@ -8,7 +8,7 @@ ghost use Rattle.otp_hand.specs.Sendings.{sent_to};
 ghost use Rattle.otp_close.specs.Settlings.{AreRooms, IsLastRoom, IsRoom, IsRoomAt};
 
 use crate::closing::Refusal;
-use otp_hand::{Client, Hand, TreeNaming};
+use otp_hand::{Hand, TreeClient, TreeNaming};
 use otp_inbox::COUNT_LIMIT;
 use otp_job::Body;
 use otp_rules::Item;
@@ -50,7 +50,7 @@ impl<B: Drop> LeftRoom<B> {
 fn count_sent<N: TreeNaming, J: Drop, S: Drop>(
     place: usize,
     hands: &[Hand<N, J, S>],
-    client: &Client<N, Body<J, S>>,
+    client: &TreeClient<N, Body<J, S>>,
 ) -> u64
     ensures { result < count_limit → length (sent_to place (all_senders client.now hands.now)) ≡ result }
 {
@@ -67,7 +67,7 @@ fn room_for<N: TreeNaming, J: Drop, S: Drop>(
     place: usize,
     sup: &Unlocked<N, Body<J, S>>,
     hands: &[Hand<N, J, S>],
-    client: &Client<N, Body<J, S>>,
+    client: &TreeClient<N, Body<J, S>>,
 ) -> Result<LeftRoom<Body<J, S>>, Refusal>
     ensures room { IfOk result (IsRoomAt (all_senders client.now hands.now) place sup.now) }
     ensures cause { IfErr result (λ why. (schedulers : List SchedulerState) → IsHandsRefused schedulers why) }
@@ -84,7 +84,7 @@ fn room_of<N: TreeNaming, J: Drop, S: Drop>(
     place: usize,
     sup: &Unlocked<N, Body<J, S>>,
     hands: &[Hand<N, J, S>],
-    client: &Client<N, Body<J, S>>,
+    client: &TreeClient<N, Body<J, S>>,
 ) -> Result<LeftRoom<Body<J, S>>, Refusal>
     requires takes { sup.now.table.taker.inbox ≡ sup.now.inbox }
     ensures room { IfOk result (IsRoomAt (all_senders client.now hands.now) place sup.now) }
@@ -101,7 +101,7 @@ pub(crate) fn make_rooms<N: TreeNaming, J: Drop, S: Drop>(
     alloc: Global,
     sups: &[Unlocked<N, Body<J, S>>],
     hands: &[Hand<N, J, S>],
-    client: &Client<N, Body<J, S>>,
+    client: &TreeClient<N, Body<J, S>>,
     rooms: &mut Vec<LeftRoom<Body<J, S>>>,
 ) -> Result<(), Refusal>
     requires none { rooms.old.items ≡ [] }
@@ -124,7 +124,7 @@ pub(crate) fn last_room<N: TreeNaming, J: Drop, S: Drop>(
     alloc: Global,
     tables: usize,
     hands: &[Hand<N, J, S>],
-    client: &Client<N, Body<J, S>>,
+    client: &TreeClient<N, Body<J, S>>,
 ) -> Option<LeftRoom<Body<J, S>>>
     ensures { IfSome result (IsLastRoom (all_senders client.now hands.now) tables client.now.waiter) }
 {

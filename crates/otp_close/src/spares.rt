@@ -2,8 +2,8 @@
 ghost use Rattle.std.specs.Prelude.{◌≡◌, ◌≤◌, [], IsTrue, length, min};
 ghost use Rattle.otp_close.specs.Spares.{AreFirst, AreUnusedFrom, IsUnused};
 
+use crate::report::{Report, TableReport};
 use otp_core::Core;
-use otp_report::{Report, TableReport};
 
 /// Whether it had no event.
 #[tactic(auto, using(crate::proofs::SparePlaces::no_event))]

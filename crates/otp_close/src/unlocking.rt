@@ -7,11 +7,11 @@ ghost use Rattle.otp_close.specs.Gathers.{IsHandsRefused};
 ghost use Rattle.otp_close.specs.Settlings.{ArePlaced, IsLoose};
 
 use crate::closing::Refusal;
+use crate::report::TableReport;
 use crate::rooms::{LeftRoom, last_room, make_rooms};
-use otp_hand::{Client, Hand, Shared, TreeNaming};
+use otp_hand::{Hand, Shared, TreeClient, TreeNaming};
 use otp_inbox::Inbox;
 use otp_job::Body;
-use otp_report::TableReport;
 use otp_signals::Words;
 use otp_sup::{Letter, Message, Sup, SupNaming, Unlocked};
 use std::alloc::{AllocError, Global};
@@ -107,7 +107,7 @@ pub(crate) fn loosen<N: TreeNaming, J: Drop, S: Drop>(
     alloc: Global,
     shared: Shared<N, J, S>,
     hands: &[Hand<N, J, S>],
-    client: &Client<N, Body<J, S>>,
+    client: &TreeClient<N, Body<J, S>>,
 ) -> Result<Loose<N, J, S>, Unready<N, J, S>>
     ensures loose { IfOk result (IsLoose client.now (all_senders client.now hands.now)) }
     ensures shared { IfOk result (λ l. shared ≡ record { slots = l.words; tables = length l.sups.items }) }

@@ -3,12 +3,12 @@ use Rattle.std.proofs.Common.{◌≡◌, ℕ, ◌⊎◌, Bool, true, false, inl,
 use Rattle.std.specs.Prelude.{⊤}
 use Rattle.otp_file.specs.Files.{Says}
 use Rattle.otp_file.specs.Trees.{Tree, tables_of}
-use Rattle.otp_roles.specs.Faults.{plan_fault}
+use Rattle.otp_file.specs.RolesFaults.{plan_fault}
 use Rattle.otp_jobs.specs.declared.body.Calm.{Calm}
 use Rattle.otp_jobs.specs.declared.worker.WorkedJob.{WorkedJob}
 use Rattle.otp_sim.specs.Devices.{Written}
-use Rattle.otp_serve.specs.declared.patient.PatientJob.{PatientJob}
-use Rattle.otp_report.specs.declared.report.Report.{Report}
+use Rattle.otp_jobs.specs.declared.serving.patient.PatientJob.{PatientJob}
+use Rattle.otp_close.specs.declared.report.report.Report.{Report}
 use Rattle.otp_tree.specs.declared.whole.CountedRun.{CountedRun}
 use Rattle.otp_command_run.specs.Running.{HasReport, HasServedReport, IsEndOfRun, IsTreeRun, IsTreeServed}
 use Rattle.otp_exit.specs.Told.{IsTold, TellsFirst}

@@ -1,1 +1,4 @@
+pub mod Awaited
+pub mod Lives
+pub mod Object
 pub mod Running

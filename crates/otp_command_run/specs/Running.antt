@@ -3,7 +3,7 @@ use Rattle.std.specs.Prelude.{◌≡◌, ◌⊎◌, ◌<◌, ℕ, Bool, true, fa
 use Rattle.std.specs.Io.KnownBytes.{Appends}
 use Rattle.otp_file.specs.Files.{Says}
 use Rattle.otp_file.specs.Trees.{Table, Tree, tables_of}
-use Rattle.otp_roles.specs.Faults.{plan_fault}
+use Rattle.otp_file.specs.RolesFaults.{plan_fault}
 use Rattle.otp_jobs.specs.Plans.{supervisors_of}
 use Rattle.otp_jobs.specs.Runs.{IsRunOf, run_text}
 use Rattle.otp_file.specs.declared.fault.TreeFault.TheVariants as fault
@@ -12,16 +12,16 @@ use Rattle.otp_jobs.specs.declared.run.FileRunFault.{FileRunFault}
 use Rattle.otp_jobs.specs.declared.run.FileRunFault.TheVariants as run
 use Rattle.otp_jobs.specs.declared.worker.WorkedJob.{WorkedJob}
 use Rattle.otp_sim.specs.Devices.{Written}
-use Rattle.otp_check_run.specs.Unfit.{HasStarts, IsRunnable}
-use Rattle.otp_outcome.specs.Object.{TellsRun}
-use Rattle.otp_serve.specs.Serves.{served_text}
-use Rattle.otp_serve.specs.declared.patient.PatientJob.{PatientJob}
+use Rattle.otp_check.specs.Unfit.{HasStarts, IsRunnable}
+use Rattle.otp_command_run.specs.Object.{TellsRun}
+use Rattle.otp_jobs.specs.Serves.{served_text}
+use Rattle.otp_jobs.specs.declared.serving.patient.PatientJob.{PatientJob}
 use Rattle.otp_close.specs.Closes.{HaveBegun, IsReportOf}
-use Rattle.otp_report.specs.declared.report.Report.{Report}
-use Rattle.otp_report.specs.declared.report.TableReport.{TableReport}
+use Rattle.otp_close.specs.declared.report.report.Report.{Report}
+use Rattle.otp_close.specs.declared.report.report.TableReport.{TableReport}
 use Rattle.otp_live.specs.declared.span.Span.{Span}
 use Rattle.otp_tree.specs.declared.whole.CountedRun.{CountedRun}
-use Rattle.otp_roles.specs.declared.fault.PlanFault.TheVariants as plan
+use Rattle.otp_file.specs.declared.roles.fault.PlanFault.TheVariants as plan
 use Rattle.otp_check.specs.Checks.{IsFirstFault}
 use Rattle.otp_commands.specs.Trees.{TreeRuns}
 use Rattle.otp_exit.specs.Devices.{HasTree}

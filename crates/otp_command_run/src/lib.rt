@@ -2,6 +2,7 @@
 //! for `otp_commands` does.
 #![tactic(auto)]
 
+pub mod outcome;
 pub mod program;
 pub mod running;
 pub mod serving;

@@ -8,14 +8,14 @@ ghost use Rattle.otp_spec.specs.declared.limits.TheConstants.{MAX_TABLES};
 ghost use Rattle.otp_exit.specs.Told.{IsTold, TellsFirst};
 ghost use Rattle.otp_command_run.specs.Running.{IsEndOfRun, IsSaid, IsTreeRun, ending_of_run};
 
+use crate::outcome::{Limit, write_awaited, write_lives, write_run_object};
 use crate::standing::draw_standing;
-use otp_check_run::find_unfit;
+use otp_check::starts::find_unfit;
 use otp_cli::RunShows;
 use otp_exit::{ProgramEnd, explain};
+use otp_file::roles::Settings;
 use otp_file::{TreeFault, TreeSpec, read_tree};
 use otp_jobs::{FileRunFault, run_worked};
-use otp_outcome::{Limit, write_awaited, write_lives, write_run_object};
-use otp_roles::Settings;
 use otp_sim::{Failed, Output, write_all};
 use otp_text::write_number;
 use otp_tree::{Gate, TableReport};

@@ -4,23 +4,23 @@ ghost use Rattle.std.specs.Prelude.{◌≡◌, ◌≤◌, ◌||◌, ◌++◌, So
 ghost use Rattle.std.specs.Option.{option_map};
 ghost use Rattle.otp_exit.specs.Told.{TellsFirst};
 ghost use Rattle.otp_file.specs.Trees.{tables_of};
-ghost use Rattle.otp_roles.specs.Faults.{plan_fault};
+ghost use Rattle.otp_file.specs.RolesFaults.{plan_fault};
 ghost use Rattle.otp_jobs.specs.Plans.{supervisors_of};
 ghost use Rattle.otp_jobs.specs.Runs.{IsOfRun, IsTooManyOnly, run_fault};
 ghost use Rattle.otp_command_run.specs.Running.{IsTreeServed, span_of};
-ghost use Rattle.otp_serve.specs.Serves.{served_text};
+ghost use Rattle.otp_jobs.specs.Serves.{served_text};
 ghost use Rattle.otp_close.specs.Closes.{HaveBegun, IsReportOf};
 
+use crate::outcome::Limit;
 use crate::running::{Pool, ending_of_live, refuse_run, remarks_on, say, tree_of};
 use crate::watching::AtPaths;
 use otp_cli::{RunShows, Serving};
 use otp_exit::{ProgramEnd, explain};
 use otp_file::TreeSpec;
+use otp_file::roles::Settings;
 use otp_jobs::FileRunFault;
+use otp_jobs::serving::{PatientReport, serve_worked};
 use otp_live::{Span, Unwatched, Watch};
-use otp_outcome::Limit;
-use otp_roles::Settings;
-use otp_serve::{PatientReport, serve_worked};
 use otp_sim::{Failed, Output, write_all};
 use otp_trial::plant_seats;
 use std::alloc::Global;

@@ -1,10 +1,10 @@
 //! How a tree stood when it was closed, as a picture for people.
 
 use otp_file::TreeSpec;
-use otp_picture::{Caption, draw_with};
 use otp_reason::Name;
 use otp_spec::{ChildSpec, SupFlags};
 use otp_table::{Row, RowState};
+use otp_text::picture::{Caption, draw_with};
 use otp_text::{write_number, write_reason};
 use otp_tree::TableReport;
 use std::alloc::{AllocError, Global};

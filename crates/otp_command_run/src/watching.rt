@@ -1,14 +1,14 @@
 //! Who is told what happens in a tree that is served.
 
+use crate::outcome::supervisor_name;
 use otp_live::{Seen, Watch};
-use otp_outcome::supervisor_name;
-use otp_trial::Seat;
+use otp_trial::TriedSupervisor;
 
 /// Tells a watch the path of each supervisor.
 #[derive(Drop)]
 pub(crate) struct AtPaths<'a, L> {
     /// The supervisors of the tree, in the order of its plans.
-    pub seats: &'a [Seat],
+    pub seats: &'a [TriedSupervisor],
     pub watch: &'a L,
 }
 

@@ -1,5 +1,7 @@
+mod Replayed
 pub mod Checked
 pub mod Joined
-mod Replayed
+pub mod Judged
+pub mod Remarked
 pub mod Untold
 pub mod Written

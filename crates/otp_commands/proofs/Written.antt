@@ -5,12 +5,12 @@ use Rattle.otp_check.specs.declared.finding.Finding.{Finding}
 use Rattle.otp_exit.specs.declared.ending.ProgramEnd.{ProgramEnd}
 use Rattle.otp_exit.specs.declared.ending.ProgramEnd.TheVariants.{Done, FaultsFound}
 use Rattle.otp_sim.specs.Devices.{Written}
-use Rattle.otp_check_run.specs.Unfit.{FindsUnfit}
-use Rattle.otp_check_run.specs.Unfit as unfit
-use Rattle.otp_check_run.specs.declared.finding.StartFinding.{StartFinding}
+use Rattle.otp_check.specs.Unfit.{FindsUnfit}
+use Rattle.otp_check.specs.Unfit as unfit
+use Rattle.otp_check.specs.declared.starts.finding.StartFinding.{StartFinding}
 use Rattle.otp_cli.specs.declared.words.Checking.{Checking}
-use Rattle.otp_lint.specs.Found as lint
-use Rattle.otp_lint.specs.declared.found.LintFinding.{LintFinding}
+use Rattle.otp_commands.specs.Found as lint
+use Rattle.otp_commands.specs.declared.lint.found.LintFinding.{LintFinding}
 use Rattle.otp_commands.specs.Findings.{TellsFaults, TellsLawful, TellsRemarks}
 use Rattle.otp_commands.specs.Runs.{IsChecked, IsLawfulFor, IsPlainFor, IsWritten}
 

@@ -7,7 +7,7 @@ use Rattle.otp_exit.specs.declared.ending.ProgramEnd.TheVariants.{Done, LineRefu
 -- how the program ends that ran `sim`
 abbrev pub ending_of : SimEnd → ProgramEnd
 ending_of sim.Done = Done
-ending_of (sim.LineRefused line) = LineRefused line
+ending_of (sim.LineRefused line why) = LineRefused line why
 ending_of sim.HistoryFull = HistoryFull
 ending_of sim.InputFailed = InputFailed
 ending_of sim.OutputFailed = OutputFailed

@@ -1,8 +1,13 @@
-pub mod Pages
+pub mod Below
 pub mod Endings
 pub mod Findings
+pub mod Found
 pub mod Imported
-pub mod Used
+pub mod Judged
+pub mod Lint
+pub mod Pages
 pub mod Runs
+pub mod Texts
 pub mod Trees
+pub mod Used
 pub mod Words

@@ -11,13 +11,13 @@ use Rattle.otp_sim.specs.Runs.{Writes}
 use Rattle.otp_sim.specs.Sim.{opened}
 use Rattle.otp_check.specs.Checks.{IsFirstFault, remarked}
 use Rattle.otp_check.specs.declared.finding.Finding.{Finding}
-use Rattle.otp_lint.specs.Found.{Finds, IsPlain}
-use Rattle.otp_lint.specs.Found as lint
-use Rattle.otp_lint.specs.declared.found.LintFinding.{LintFinding}
-use Rattle.otp_roles.specs.declared.fault.PlanFault.{PlanFault}
-use Rattle.otp_check_run.specs.Unfit.{HasStarts, IsRunnable}
-use Rattle.otp_check_run.specs.Unfit as unfit
-use Rattle.otp_check_run.specs.declared.finding.StartFinding.{StartFinding}
+use Rattle.otp_commands.specs.Found.{Finds, IsPlain}
+use Rattle.otp_commands.specs.Found as lint
+use Rattle.otp_commands.specs.declared.lint.found.LintFinding.{LintFinding}
+use Rattle.otp_file.specs.declared.roles.fault.PlanFault.{PlanFault}
+use Rattle.otp_check.specs.Unfit.{HasStarts, IsRunnable}
+use Rattle.otp_check.specs.Unfit as unfit
+use Rattle.otp_check.specs.declared.starts.finding.StartFinding.{StartFinding}
 use Rattle.otp_exit.specs.Devices.{Files, HasTree, IsUnread}
 use Rattle.otp_exit.specs.Statuses.{status_of}
 use Rattle.otp_exit.specs.Told.{IsSmall, Tells, TellsFirst, goes_on, worse}
@@ -28,6 +28,7 @@ use Rattle.otp_cli.specs.declared.words.Checking.{Checking}
 use Rattle.otp_cli.specs.declared.words.Command.{Command}
 use Rattle.otp_cli.specs.declared.words.Command.TheVariants as command
 use Rattle.otp_commands.specs.Findings.{TellsFaults, TellsLawful, TellsRemarks, TellsUnread}
+use Rattle.otp_commands.specs.Judged.{Judges}
 use Rattle.otp_commands.specs.Trees.{TreeRuns}
 use Rattle.otp_commands.specs.Used.{Uses, has_remarks}
 
@@ -39,7 +40,7 @@ Played end file old new = (tree : Tree) × (Says file (Ok tree) × Writes end (o
 abbrev pub IsRun : ProgramEnd → List ℕ → Devices → Devices → Type 0
 IsRun Done file old new = Played sim.Done file old new
 IsRun (TreeRefused why) file old new = (new ≡ old) × IsFirstFault why file
-IsRun (LineRefused line) file old new = Played (sim.LineRefused line) file old new
+IsRun (LineRefused line why) file old new = Played (sim.LineRefused line why) file old new
 IsRun HistoryFull file old new = Played sim.HistoryFull file old new
 IsRun InputFailed file old new = Played sim.InputFailed file old new
 IsRun OutputFailed file old new = Played sim.OutputFailed file old new
@@ -162,6 +163,8 @@ Does known trees (command.Run file settings shows) ending old new =
     IsUnread old new × trees.by_turns (known.holds file.now) shows.is_json file.now settings.counted ending old.output new.output
 Does known trees (command.Serve file settings serving shows) ending old new =
     IsUnread old new × trees.for_a_time (known.holds file.now) shows.is_json file.now ending old.output new.output
+Does known trees (command.Judge file scripts clock) ending old new =
+    IsUnread old new × Judges known file.now scripts.items ending old.output new.output
 Does known trees (command.Use file usage) ending old new = Uses known file.now usage ending old new
 
 -- a picture of the tree that is run is told besides, or why its supervisors ended, where the command asks for it; and remarks on what

@@ -3,18 +3,18 @@
 ghost use Rattle.std.specs.Prelude.{◌≡◌, true, IfOk};
 ghost use Rattle.otp_commands.specs.Findings.{TellsFaults, TellsLawful, TellsLines, TellsPlain, TellsRemarks, TellsUnread, TellsWarned, TellsWhy};
 ghost use Rattle.otp_commands.specs.Runs.{IsChecked, IsLawfulFor, IsPlainFor, IsWritten};
-ghost use Rattle.otp_lint.specs.Found.{remarked};
+ghost use Rattle.otp_commands.specs.Found.{remarked};
 ghost use Rattle.otp_exit.specs.declared.ending.ProgramEnd.TheVariants.{Done, FaultsFound, FileNotRead};
 
 use crate::findings::{shown_name, write_line, write_plain_line, write_some, write_unread_line};
+use crate::lint::{LintFinding, find_remarks};
 use crate::objects::{
     put_fault_object, put_lawful_object, put_remark_object, put_unread_object, put_warned_object,
 };
+use otp_check::starts::find_unfit;
 use otp_check::{Remark, check, warning};
-use otp_check_run::find_unfit;
 use otp_cli::Checking;
 use otp_exit::ProgramEnd;
-use otp_lint::{LintFinding, find_remarks};
 use otp_sim::{Failed, Output, write_all};
 use std::alloc::{AllocError, Global};
 

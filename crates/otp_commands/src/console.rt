@@ -34,7 +34,7 @@ fn end_of_sim<'a>(end: SimEnd) -> ProgramEnd<'a>
 {
     match end {
         SimEnd::Done => ProgramEnd::Done,
-        SimEnd::LineRefused(line) => ProgramEnd::LineRefused(line),
+        SimEnd::LineRefused(line, why) => ProgramEnd::LineRefused(line, why),
         SimEnd::HistoryFull => ProgramEnd::HistoryFull,
         SimEnd::InputFailed => ProgramEnd::InputFailed,
         SimEnd::OutputFailed => ProgramEnd::OutputFailed,

@@ -7,6 +7,8 @@ pub mod checking;
 pub mod console;
 mod findings;
 mod importing;
+mod judging;
+pub mod lint;
 mod logs;
 mod objects;
 mod pages;

@@ -1,14 +1,14 @@
 //! `replay`: the log of a file is read, also one of another program, and what it tells is played on a tree.
 
 ghost use Rattle.std.specs.Prelude.{◌≤◌, false, IfErr};
-ghost use Rattle.otp_commands.specs.Used.{IsReplayBehind, IsReplayBy, IsReplayOf, IsReplayOfLog, IsReplayOfText, IsWithoutTree};
+ghost use Rattle.otp_commands.specs.Used.{IsReplayAlone, IsReplayBehind, IsReplayBy, IsReplayOf, IsReplayOfLog, IsReplayOfText, IsReplayWith, IsWithoutTree};
 ghost use Rattle.otp_exit.specs.Told.{TellsFirst};
 
 use otp_cli::LogReading;
 use otp_exit::{ProgramEnd, TreeFiles, read_any_file, read_log};
 use otp_file::{TreeSpec, read_tree};
 use otp_logs::{LogWords, Translation, translate_log};
-use otp_questions::{Log, replay_file};
+use otp_questions::{Log, replay_file, tell_replay};
 use otp_replay::Replaying;
 use otp_sim::{Failed, Output, write_all};
 use std::alloc::Global;
@@ -22,17 +22,18 @@ pub(crate) fn replay_log<'a, F: TreeFiles, W: Output, E: Output>(
     log: &'a str,
     reading: LogReading<'a>,
     replaying: Replaying,
+    is_json: bool,
     output: &mut W,
     errors: &mut E,
 ) -> ProgramEnd<'a>
-    ensures done { IsReplayOf ((F.known files.now).holds log.now) log.entry replaying.is_listed name.now
+    ensures done { IsReplayOf ((F.known files.now).holds log.now) is_json log.entry replaying.is_listed name.now
         result file.now (W.seen output.old) (W.seen output.new) }
     ensures first { TellsFirst false result (E.seen errors.old) (E.seen errors.new) }
     ensures kept { (E.seen errors.old).failures ≤ (E.seen errors.new).failures }
 {
     match read_log(files, log, errors) {
         Ok(text) => replay_read(
-            alloc, files, name, file, log, &text, reading, replaying, output, errors,
+            alloc, files, name, file, log, &text, reading, replaying, is_json, output, errors,
         ),
         Err(ending) => ending,
     }
@@ -48,20 +49,23 @@ fn replay_read<'a, F: TreeFiles, W: Output, E: Output>(
     text: &[u8],
     reading: LogReading<'a>,
     replaying: Replaying,
+    is_json: bool,
     output: &mut W,
     errors: &mut E,
 ) -> ProgramEnd<'a>
-    ensures done { IsReplayOfText log.entry text.now replaying.is_listed name.now
+    ensures done { IsReplayOfText is_json log.entry text.now replaying.is_listed name.now
         result file.now (W.seen output.old) (W.seen output.new) }
     ensures first { TellsFirst false result (E.seen errors.old) (E.seen errors.new) }
     ensures kept { (E.seen errors.old).failures ≤ (E.seen errors.new).failures }
 {
     let strict = reading.is_strict;
     match reading.ids {
-        None => replay_text(alloc, name, file, log, text, b"", strict, replaying, output),
+        None => replay_text(
+            alloc, name, file, log, text, b"", strict, replaying, is_json, output,
+        ),
         Some(ids) => match read_any_file(files, ids, errors) {
             Ok(ids) => replay_text(
-                alloc, name, file, log, text, &ids, strict, replaying, output,
+                alloc, name, file, log, text, &ids, strict, replaying, is_json, output,
             ),
             Err(ending) => ending,
         },
@@ -78,14 +82,15 @@ fn replay_text<'a, W: Output>(
     ids: &[u8],
     is_strict: bool,
     replaying: Replaying,
+    is_json: bool,
     output: &mut W,
 ) -> ProgramEnd<'a>
-    ensures { IsReplayOfText log.entry text.now replaying.is_listed name.now
+    ensures { IsReplayOfText is_json log.entry text.now replaying.is_listed name.now
         result file.now (W.seen output.old) (W.seen output.new) }
 {
     match tree_of(alloc, file, name) {
         Ok(tree) => replay_on(
-            alloc, tree, name, file, log, text, ids, is_strict, replaying, output,
+            alloc, tree, name, file, log, text, ids, is_strict, replaying, is_json, output,
         ),
         Err(ending) => ending,
     }
@@ -102,9 +107,10 @@ fn replay_on<'a, W: Output>(
     ids: &[u8],
     is_strict: bool,
     replaying: Replaying,
+    is_json: bool,
     output: &mut W,
 ) -> ProgramEnd<'a>
-    ensures { IsReplayOfLog log.entry text.now replaying.is_listed name.now
+    ensures { IsReplayOfLog is_json log.entry text.now replaying.is_listed name.now
         result file.now (W.seen output.old) (W.seen output.new) }
 {
     let words = LogWords {
@@ -116,7 +122,9 @@ fn replay_on<'a, W: Output>(
     let translated = translate_log(alloc, &tree, text, words);
     drop(tree);
     match translated {
-        Ok(found) => replay_as(alloc, name, file, log, text, found, replaying, output),
+        Ok(found) => replay_as(
+            alloc, name, file, log, text, found, replaying, is_json, output,
+        ),
         Err(_) => ProgramEnd::OutOfMemory,
     }
 }
@@ -140,18 +148,16 @@ fn replay_as<'a, W: Output>(
     text: &[u8],
     found: Option<Translation>,
     replaying: Replaying,
+    is_json: bool,
     output: &mut W,
 ) -> ProgramEnd<'a>
-    ensures { IsReplayBy found log.entry text.now replaying.is_listed name.now
+    ensures { IsReplayBy found is_json log.entry text.now replaying.is_listed name.now
         result file.now (W.seen output.old) (W.seen output.new) }
 {
     match found {
-        None => {
-            let read = Log { name: log, text };
-            replay_file(alloc, name, file, read, replaying, output)
-        }
+        None => replay_alone(alloc, name, file, log, text, replaying, is_json, output),
         Some(translation) => {
-            let ending = replay_behind(
+            let ending = replay_with(
                 alloc,
                 name,
                 file,
@@ -159,6 +165,7 @@ fn replay_as<'a, W: Output>(
                 translation.lines.as_slice(),
                 translation.notes.as_slice(),
                 replaying,
+                is_json,
                 output,
             );
             drop(translation);
@@ -167,8 +174,39 @@ fn replay_as<'a, W: Output>(
     }
 }
 
-/// Replays the lines that stand for a log, behind what is told of it.
-fn replay_behind<'a, W: Output>(
+/// Plays a log as it stands.
+fn replay_alone<'a, W: Output>(
+    alloc: Global,
+    name: &'a str,
+    file: &[u8],
+    log: &'a str,
+    text: &[u8],
+    replaying: Replaying,
+    is_json: bool,
+    output: &mut W,
+) -> ProgramEnd<'a>
+    ensures { IsReplayAlone is_json log.entry text.now replaying.is_listed name.now
+        result file.now (W.seen output.old) (W.seen output.new) }
+{
+    let read = Log { name: log, text };
+    if is_json {
+        tell_replay(
+            alloc,
+            name,
+            file,
+            read,
+            b"",
+            replaying.is_listed,
+            replaying.clock,
+            output,
+        )
+    } else {
+        replay_file(alloc, name, file, read, replaying, output)
+    }
+}
+
+/// Replays the lines that stand for a log, with what is told of it.
+fn replay_with<'a, W: Output>(
     alloc: Global,
     name: &'a str,
     file: &[u8],
@@ -176,19 +214,47 @@ fn replay_behind<'a, W: Output>(
     lines: &[u8],
     notes: &[u8],
     replaying: Replaying,
+    is_json: bool,
     output: &mut W,
 ) -> ProgramEnd<'a>
-    ensures { IsReplayBehind notes.now log.entry lines.now replaying.is_listed name.now
+    ensures { IsReplayWith is_json notes.now log.entry lines.now replaying.is_listed name.now
+        result file.now (W.seen output.old) (W.seen output.new) }
+{
+    let read = Log {
+        name: log,
+        text: lines,
+    };
+    if is_json {
+        tell_replay(
+            alloc,
+            name,
+            file,
+            read,
+            notes,
+            replaying.is_listed,
+            replaying.clock,
+            output,
+        )
+    } else {
+        replay_behind(alloc, name, file, read, notes, replaying, output)
+    }
+}
+
+/// Replays a log behind what is told of it.
+fn replay_behind<'a, W: Output>(
+    alloc: Global,
+    name: &'a str,
+    file: &[u8],
+    log: Log<'a, '_>,
+    notes: &[u8],
+    replaying: Replaying,
+    output: &mut W,
+) -> ProgramEnd<'a>
+    ensures { IsReplayBehind notes.now log.entry.name log.entry.text.now replaying.is_listed name.now
         result file.now (W.seen output.old) (W.seen output.new) }
 {
     match write_all(output, notes) {
-        Ok(()) => {
-            let read = Log {
-                name: log,
-                text: lines,
-            };
-            replay_file(alloc, name, file, read, replaying, output)
-        }
+        Ok(()) => replay_file(alloc, name, file, log, replaying, output),
         Err(Failed) => ProgramEnd::OutputFailed,
     }
 }

@@ -12,6 +12,7 @@ ghost use Rattle.otp_cli.specs.declared.words.WordsFault.TheVariants.{Clap};
 
 use crate::checking::{check_file, write_unread};
 use crate::console::console;
+use crate::judging::judge_scripts;
 use crate::using::use_named;
 use clap::Error;
 use otp_cli::{Checking, Command, WordsFault, read_words};
@@ -100,6 +101,19 @@ where
             checking,
         } => check_all(alloc, files, names.as_slice(), checking, output),
         Command::Run { .. } | Command::Serve { .. } => ProgramEnd::RunsNoTrees,
+        Command::Judge {
+            file,
+            scripts,
+            clock,
+        } => judge_scripts(
+            alloc,
+            files,
+            file,
+            scripts.as_slice(),
+            clock,
+            output,
+            errors,
+        ),
         Command::Use { file, usage } => use_named(alloc, files, file, usage, input, output, errors),
     }
 }

@@ -17,8 +17,8 @@ use otp_cli::{Form, LogReading, Page, TrialShows, Usage};
 use otp_costs::{Grain, Pick, Progress, Unseen};
 use otp_exit::{ProgramEnd, TreeFiles, read_any_file, read_script, read_tree_file};
 use otp_questions::{
-    Asking, compare_files, draw_file, limit_file, stop_file, suggest_file, tell_run, tell_tree,
-    try_file,
+    Asking, compare_files, draw_file, limit_file, root_file, stop_file, suggest_file, tell_run,
+    tell_tree, try_file,
 };
 use otp_replay::Replaying;
 use otp_sim::{Counted, Input, Output};
@@ -94,7 +94,7 @@ fn use_file<'a, F: TreeFiles, R: Input, W: Output, E: Output>(
             alloc, files, name, file, script, writer, shows, form, input, output, errors,
         ),
         Usage::Draw { form } => draw_as(alloc, files, name, file, form, output),
-        Usage::Stop { is_json } => stop_file(alloc, name, file, is_json, output),
+        Usage::Stop { within, is_json } => { stop_file(alloc, name, file, within, is_json, output) }
         Usage::Limit { pick, grain, form } => match form {
             Form::Text => limit_seen(alloc, files, name, file, pick, grain, output),
             Form::Object => {
@@ -107,15 +107,28 @@ fn use_file<'a, F: TreeFiles, R: Input, W: Output, E: Output>(
             },
             Form::Page(page) => put_limits(alloc, files, name, file, pick, grain, page, output),
         },
-        Usage::Suggest { child, every } => suggest_file(alloc, name, file, child, every, output),
-        Usage::Compare { other } => compare_with(alloc, files, name, file, other, output, errors),
+        Usage::Suggest {
+            child,
+            asked,
+            is_json,
+        } => suggest_file(alloc, name, file, child, asked, is_json, output),
+        Usage::Root {
+            child,
+            times,
+            within,
+            is_json,
+        } => root_file(alloc, name, file, child, times, within, is_json, output),
+        Usage::Compare { other, is_json } => compare_with(
+            alloc, files, name, file, other, is_json, output, errors,
+        ),
         Usage::Replay {
             log,
             reading,
             is_listed,
             shows,
+            is_json,
         } => replay_shown(
-            alloc, files, name, file, log, reading, is_listed, shows, output, errors,
+            alloc, files, name, file, log, reading, is_listed, shows, is_json, output, errors,
         ),
         Usage::Import { of_commands } => import_file(
             alloc,
@@ -149,11 +162,11 @@ fn draw_as<'a, F: TreeFiles, W: Output>(
 
 /// Somebody at a terminal sees how far an answer is.
 #[derive(Drop)]
-struct Seen<'a, F> {
+struct ShownProgress<'a, F> {
     files: &'a F,
 }
 
-impl<F: TreeFiles> Progress for Seen<'_, F> {
+impl<F: TreeFiles> Progress for ShownProgress<'_, F> {
     fn saw(&self, made: usize, of: usize) {
         self.files.saw(made, of);
     }
@@ -172,7 +185,7 @@ fn limit_seen<'a, F: TreeFiles, W: Output>(
     ensures { IsLimited false grain pick.entry name.now result file.now
         (W.seen output.old) (W.seen output.new) }
 {
-    let seen = Seen { files };
+    let seen = ShownProgress { files };
     let asking = Asking {
         pick,
         grain,
@@ -367,16 +380,17 @@ fn compare_with<'a, F: TreeFiles, W: Output, E: Output>(
     name: &'a str,
     file: &[u8],
     other: &'a str,
+    is_json: bool,
     output: &mut W,
     errors: &mut E,
 ) -> ProgramEnd<'a>
-    ensures done { IsComparedWith ((F.known files.now).holds other.now) name.now other.now
+    ensures done { IsComparedWith ((F.known files.now).holds other.now) is_json name.now other.now
         result file.now (W.seen output.old) (W.seen output.new) }
     ensures first { TellsFirst false result (E.seen errors.old) (E.seen errors.new) }
     ensures kept { (E.seen errors.old).failures ≤ (E.seen errors.new).failures }
 {
     match read_tree_file(files, other, errors) {
-        Ok(other_file) => compare_files(alloc, name, file, other, &other_file, output),
+        Ok(other_file) => compare_files(alloc, name, file, other, &other_file, is_json, output),
         Err(ending) => ending,
     }
 }
@@ -391,10 +405,11 @@ fn replay_shown<'a, F: TreeFiles, W: Output, E: Output>(
     reading: LogReading<'a>,
     is_listed: bool,
     shows: TrialShows,
+    is_json: bool,
     output: &mut W,
     errors: &mut E,
 ) -> ProgramEnd<'a>
-    ensures done { IsReplayOf ((F.known files.now).holds log.now) log.entry is_listed name.now
+    ensures done { IsReplayOf ((F.known files.now).holds log.now) is_json log.entry is_listed name.now
         result file.now (W.seen output.old) (W.seen output.new) }
     ensures first { TellsFirst false result (E.seen errors.old) (E.seen errors.new) }
     ensures kept { (E.seen errors.old).failures ≤ (E.seen errors.new).failures }
@@ -405,6 +420,6 @@ fn replay_shown<'a, F: TreeFiles, W: Output, E: Output>(
         is_listed,
     };
     replay_log(
-        alloc, files, name, file, log, reading, replaying, output, errors,
+        alloc, files, name, file, log, reading, replaying, is_json, output, errors,
     )
 }

@@ -50,7 +50,7 @@ pub record HasRoom (a : Inside) : Type 0 where
 pub record IsCore (a : Inside) : Type 0 where
   -- with the answers and ends that were dropped, the state is the run of the history
   pub runs : older (dropped a) (outcome_of a.machine).state ≡ state_after (first_of a) (events_of a)
-  -- and it is the run of the stored events from the checkpoint on
+  -- the state is the run of the stored events from the checkpoint on
   pub kept : (outcome_of a.machine).state ≡ state_after (base_of (state_after (first_of a) a.history.past)) a.history.events
   pub lawful : IsLawfulHistory (first_of a) (events_of a)
   -- the numbers rise up to the last

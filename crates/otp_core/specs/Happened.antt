@@ -34,7 +34,7 @@ pub record Happened (limit : ℕ) (event : Event) (old new : View) : Type 0 wher
 abbrev pub number_after : ℕ → Bool → Option ℕ
 number_after last draws = if draws then Some (last + 1) else None
 
--- the same of an event of this kind, whose number is counted; and which one is the last then
+-- an event of this kind happened, whose number is counted; and which one is the last then
 pub record HappenedAfter (limit last reading : ℕ) (k : Kind) (old new : View) (after : ℕ) : Type 0 where
   pub number : Option ℕ
   pub number_is : number ≡ number_after last (needs_number (state_of old) reading k)

@@ -33,16 +33,16 @@ ghost use Rattle.otp_rules.specs.Ends.{last_stamps};
 use crate::cut::{CutFault, MAX_EVENTS_IN_ALL, MAX_KEPT_LINES};
 use crate::opening::OpenFault;
 use crate::reply::ReplyAnswer;
-use otp_base::{Base, Counts, Origin, ResumeFault, base_at, machine_at, origin_of};
-use otp_decisions::effects::{count_orders, move_orders};
-use otp_decisions::next::{has_late, next_deadline};
-use otp_decisions::state::{answers_call, is_over, own_number};
+use otp_base::{Base, BaseState, Counts, ResumeFault, base_at, machine_at, origin_of};
+use otp_machine::decisions::effects::{count_orders, move_orders};
+use otp_machine::decisions::next::{has_late, next_deadline};
+use otp_machine::decisions::state::{answers_call, is_over, own_number};
+use otp_machine::stores::answers::{Answers, greater_of};
+use otp_machine::stores::history::History;
+use otp_machine::stores::waits::Waits;
 use otp_machine::{Given, Machine, Numbers};
 use otp_rules::{CountsNow, Effect, Event, Kind, Phase, Reply, Sequel, SupEnd, Waiting, laws};
 use otp_spec::{ChildSpec, MAX_EVENTS, SupFlags, SupSpec, check_supervisor, copy_specs};
-use otp_stores::answers::{Answers, greater_of};
-use otp_stores::history::History;
-use otp_stores::waits::Waits;
 use otp_table::{Row, Rows};
 use otp_window::Window;
 use std::alloc::{AllocError, Global};
@@ -91,7 +91,7 @@ pub struct Core {
     machine: Machine,
     history: History,
     /// The state at which the history begins. It has no bytes.
-    origin: Origin,
+    origin: BaseState,
     /// What the checkpoint counted from which the core was resumed.
     earlier: Counts,
     /// The last process number that an event gave.

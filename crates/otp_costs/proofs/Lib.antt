@@ -1,2 +1,5 @@
 pub mod Ranked
+pub mod Scenes
+pub mod Steadies
+pub mod Takings
 pub mod TreeRanked

@@ -4,7 +4,7 @@ use Rattle.std.specs.List.{filter_map, list_any}
 use Rattle.std.specs.Str.{bytes_eq}
 use Rattle.otp_reason.specs.declared.name.Name.{Name}
 use Rattle.otp_reason.specs.Names.{name_bytes}
-use Rattle.otp_limits.specs.Falls.{supervisor_path}
+use Rattle.otp_costs.specs.Falls.{supervisor_path}
 use Rattle.otp_costs.specs.declared.alike.Weighed.{Weighed}
 use Rattle.otp_costs.specs.declared.group.Group.{Group}
 use Rattle.otp_costs.specs.declared.pick.Pick.{Pick}

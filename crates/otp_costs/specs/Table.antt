@@ -2,10 +2,10 @@
 use Rattle.std.specs.Prelude.{◌≡◌, ℕ, ◌+◌, ◌-◌, Bool, true, false, List, [], ◌∷◌, ◌++◌, length, codes, decimal, drop, replicate, take, nat_le, nat_lt, min, ◌==◌, ◌&&◌, if◌then◌else◌}
 use Rattle.std.specs.List.{flat_map}
 use Rattle.otp_reason.specs.declared.name.Name.{Name}
-use Rattle.otp_limits.specs.Falls.{supervisor_path}
-use Rattle.otp_limits.specs.declared.fall.TheConstants.{MOST_FALLS}
-use Rattle.otp_limits.specs.declared.fate.Fate.{Fate}
-use Rattle.otp_limits.specs.declared.fate.Fate.TheVariants as fate
+use Rattle.otp_costs.specs.Falls.{supervisor_path}
+use Rattle.otp_costs.specs.declared.limits.fall.TheConstants.{MOST_FALLS}
+use Rattle.otp_costs.specs.declared.limits.fate.Fate.{Fate}
+use Rattle.otp_costs.specs.declared.limits.fate.Fate.TheVariants as fate
 use Rattle.otp_costs.specs.Groups.{below}
 use Rattle.otp_costs.specs.Words.{at_left, at_right, burst_text, clock_text, gone_text, interval_text}
 use Rattle.otp_costs.specs.declared.rows.Row.{Row}
@@ -35,7 +35,7 @@ root_text fate.Survived = decimal MOST_FALLS ++ codes "+"
 root_text (fate.Ended count) = decimal count
 root_text (fate.Gone count) = gone_text count (codes "-") (codes "any")
 
--- the same in its column, which a tree with one supervisor alone has not
+-- how many crashes at once the root survives, in its column, which a tree with one supervisor alone has not
 unfoldable pub root_column : Bool → Fate → List ℕ
 root_column true root = []
 root_column false root = at_right 8 (root_text root)
@@ -128,7 +128,7 @@ unfoldable pub named_text : ℕ → Row → List ℕ
 named_text most row =
     list_text most (codes "  stops ") row.path row.own.stops ++ list_text most (codes "  starts") row.path row.own.starts
 
--- and how many processes below these children, if there are some
+-- how many processes stand below these children, if there are some
 unfoldable pub below_text : ℕ → ℕ → List ℕ
 below_text stops starts =
     if (stops == 0) && (starts == 0) then []

@@ -1,9 +1,9 @@
 -- The words of a table of limits (own).
 use Rattle.std.specs.Prelude.{ℕ, ◌-◌, Bool, true, false, List, [], ◌++◌, length, codes, decimal, replicate, ◌==◌, if◌then◌else◌}
-use Rattle.otp_limits.specs.declared.fate.Fate.{Fate}
-use Rattle.otp_limits.specs.declared.fate.Fate.TheVariants as fate
-use Rattle.otp_limits.specs.declared.steady.Steady.{Steady}
-use Rattle.otp_limits.specs.declared.steady.Steady.TheVariants as steady
+use Rattle.otp_costs.specs.declared.limits.fate.Fate.{Fate}
+use Rattle.otp_costs.specs.declared.limits.fate.Fate.TheVariants as fate
+use Rattle.otp_costs.specs.declared.limits.steady.Steady.{Steady}
+use Rattle.otp_costs.specs.declared.limits.steady.Steady.TheVariants as steady
 
 -- a text at the left of a column, or at its right
 unfoldable pub at_left : ℕ → List ℕ → List ℕ
@@ -28,7 +28,7 @@ steady_text steady.Always = codes "any"
 steady_text (steady.Apart gap) = decimal gap ++ codes " ms"
 steady_text steady.Never = codes "none"
 
--- the same of a child that fares so
+-- how far apart crashes of a child must be that fares so
 unfoldable pub interval_text : Fate → Steady → List ℕ
 interval_text fate.Survived steady = steady_text steady
 interval_text (fate.Ended _) steady = steady_text steady

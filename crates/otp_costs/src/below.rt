@@ -5,17 +5,17 @@ ghost use Rattle.std.specs.List.{starts_with};
 ghost use Rattle.otp_costs.specs.Below.{count_below, count_processes, path_below, standing, standing_if, weighed, weighed_in};
 
 use crate::alike::Weighed;
-use crate::pick::put_name;
+use crate::pick::put_below;
 use otp_reason::Name;
 use otp_spec::ChildSpec;
-use otp_trial::Seat;
+use otp_trial::TriedSupervisor;
 use std::alloc::{AllocError, Global};
 
 /// The path of a child's own children.
 fn put_path(path: &[u8], name: &Name, word: &mut Vec<u8>) -> Result<(), AllocError>
     ensures { OnOk result (word.new.items ≡ path_below path.now name.now) }
 {
-    put_name(path, name, word)?;
+    put_below(path, name, word)?;
     word.extend_from_slice(b"/")
 }
 
@@ -28,7 +28,7 @@ fn is_below(path: &[u8], front: &[u8]) -> bool
 
 /// How many children start with a supervisor.
 #[tactic(auto, unfolding(crate::specs::Below::standing))]
-fn standing(seat: &Seat) -> usize
+fn standing(seat: &TriedSupervisor) -> usize
     ensures { result ≡ standing seat.now }
 {
     if seat.flags().strategy.is_simple() {
@@ -40,14 +40,14 @@ fn standing(seat: &Seat) -> usize
 
 /// How many of them are counted.
 #[tactic(auto, unfolding(crate::specs::Below::standing_if))]
-fn standing_if(is_below: bool, seat: &Seat) -> u64
+fn standing_if(is_below: bool, seat: &TriedSupervisor) -> u64
     ensures { result ≡ standing_if is_below seat.now }
 {
     if is_below { standing(seat) as u64 } else { 0 }
 }
 
 /// How many processes have the supervisors whose paths begin so, if it isn't above all numbers.
-fn count_below(front: &[u8], seats: &[Seat]) -> Option<u64>
+fn count_below(front: &[u8], seats: &[TriedSupervisor]) -> Option<u64>
     ensures { IfSome result (λ count. count ≡ count_below front.now seats.now) }
 {
     match seats {
@@ -62,7 +62,7 @@ fn count_below(front: &[u8], seats: &[Seat]) -> Option<u64>
 /// How many processes have a child and all that stands below it, if it isn't above all numbers. The word is a place for a text.
 fn count_with(
     path: &[u8],
-    seats: &[Seat],
+    seats: &[TriedSupervisor],
     name: &Name,
     word: &mut Vec<u8>,
 ) -> Result<Option<u64>, AllocError>
@@ -83,7 +83,7 @@ fn count_with(
 /// Where memory is refused; a number above all others would want more than there is.
 pub(crate) fn count_processes(
     path: &[u8],
-    seats: &[Seat],
+    seats: &[TriedSupervisor],
     names: &[Name],
     word: &mut Vec<u8>,
 ) -> Result<u64, AllocError>
@@ -104,7 +104,7 @@ pub(crate) fn count_processes(
 /// A child of a supervisor with this path, and how many processes stand below it. The word is a place for a text.
 fn weigh(
     path: &[u8],
-    seats: &[Seat],
+    seats: &[TriedSupervisor],
     spec: &ChildSpec,
     word: &mut Vec<u8>,
 ) -> Result<Weighed, AllocError>
@@ -125,7 +125,7 @@ fn weigh(
 pub(crate) fn weigh_all(
     alloc: Global,
     path: &[u8],
-    seats: &[Seat],
+    seats: &[TriedSupervisor],
     specs: &[ChildSpec],
 ) -> Result<Vec<Weighed>, AllocError>
     ensures { IfOk result (λ children. children.items ≡ weighed path.now seats.now specs.now) }

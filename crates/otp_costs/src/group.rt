@@ -6,7 +6,7 @@ ghost use Rattle.otp_costs.specs.Alike.{is_alike};
 ghost use Rattle.otp_costs.specs.Groups.{group_if, groups, groups_from, heads_after, name_if, names_with};
 
 use crate::alike::{Grain, Weighed, is_alike, is_like_one};
-use otp_limits::Listed;
+use crate::limits::Listed;
 use otp_reason::Name;
 use otp_spec::Strategy;
 use std::alloc::{AllocError, Global};

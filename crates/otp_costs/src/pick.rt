@@ -7,7 +7,7 @@ ghost use Rattle.otp_costs.specs.Groups.{below, is_wanted};
 ghost use Rattle.otp_costs.specs.Told.{is_all, most_of};
 ghost use Rattle.otp_costs.specs.declared.table.TheConstants.{SHOWN};
 
-use otp_limits::supervisor_path;
+use crate::limits::supervisor_path;
 use otp_reason::Name;
 use std::alloc::AllocError;
 
@@ -22,8 +22,12 @@ pub enum Pick<'a> {
     Table(&'a str),
 }
 
-/// The name of a child of a supervisor with this path.
-pub(crate) fn put_name(path: &[u8], name: &Name, word: &mut Vec<u8>) -> Result<(), AllocError>
+/// Puts the name of a child of a supervisor with this path in the place of a text.
+///
+/// # Errors
+///
+/// Where memory is refused.
+pub fn put_below(path: &[u8], name: &Name, word: &mut Vec<u8>) -> Result<(), AllocError>
     ensures { OnOk result (word.new.items ≡ below path.now name.now) }
 {
     word.clear();
@@ -48,7 +52,7 @@ pub(crate) fn has_child(
     ensures { IfOk result (λ found. found ≡ list_any (λ name. bytes_eq (below path.now name) whole.now) names.now) }
 {
     for name in names {
-        put_name(path, name, word)?;
+        put_below(path, name, word)?;
         if is_text(word.as_slice(), whole) {
             return Ok(true);
         }

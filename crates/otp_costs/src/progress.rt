@@ -1,6 +1,6 @@
 //! Who sees how far it is while the children of a tree are played.
 
-use otp_trial::Seat;
+use otp_trial::TriedSupervisor;
 
 /// Who sees how far it is where all children of a tree are played: where hardly two of them are alike that may take minutes.
 pub trait Progress {
@@ -17,6 +17,6 @@ impl Progress for Unseen {
 }
 
 /// Shows that the children of the supervisor at this place are next.
-pub(crate) fn see<P: Progress>(progress: &P, place: usize, seats: &[Seat]) {
+pub(crate) fn see<P: Progress>(progress: &P, place: usize, seats: &[TriedSupervisor]) {
     progress.saw(place, seats.len());
 }

@@ -7,13 +7,13 @@ ghost use Rattle.otp_costs.specs.Rows.{AreRows, HasRow, HaveRows, IsRow, PutsRan
 use crate::alike::Grain;
 use crate::below::{count_processes, weigh_all};
 use crate::group::{Group, find_groups};
+use crate::limits::{Cost, Fate, Listed, Path, find_cost, find_fall};
 use crate::pick::Pick;
 use crate::progress::{Progress, Unseen, see};
 use crate::rank::put_in;
 use otp_file::TreeSpec;
-use otp_limits::{Cost, Fate, Listed, Path, find_cost, find_fall};
 use otp_reason::Name;
-use otp_trial::{Halt, Seat, plant_seats};
+use otp_trial::{Halt, TriedSupervisor, plant_seats};
 use std::alloc::{AllocError, Global};
 
 /// What the failure of each of some children of a supervisor costs.
@@ -58,9 +58,9 @@ fn put_names(names: &[Name], copy: &mut Listed<Name>) -> Result<(), AllocError>
 fn find_row(
     alloc: Global,
     tree: &TreeSpec,
-    seats: &[Seat],
+    seats: &[TriedSupervisor],
     place: usize,
-    seat: &Seat,
+    seat: &TriedSupervisor,
     group: &Group,
     word: &mut Vec<u8>,
 ) -> Result<Row, Halt>
@@ -86,7 +86,7 @@ fn find_row(
 /// Whether a group of a supervisor is asked for. The word is a place for a text.
 fn is_asked_for(
     pick: &Pick<'_>,
-    seat: &Seat,
+    seat: &TriedSupervisor,
     group: &Group,
     word: &mut Vec<u8>,
 ) -> Result<bool, AllocError>
@@ -100,9 +100,9 @@ fn is_asked_for(
 fn put_row_if(
     alloc: Global,
     tree: &TreeSpec,
-    seats: &[Seat],
+    seats: &[TriedSupervisor],
     place: usize,
-    seat: &Seat,
+    seat: &TriedSupervisor,
     group: &Group,
     is_wanted: bool,
     word: &mut Vec<u8>,
@@ -122,9 +122,9 @@ fn put_row(
     alloc: Global,
     pick: &Pick<'_>,
     tree: &TreeSpec,
-    seats: &[Seat],
+    seats: &[TriedSupervisor],
     place: usize,
-    seat: &Seat,
+    seat: &TriedSupervisor,
     group: &Group,
     word: &mut Vec<u8>,
     rows: &mut Vec<Row>,
@@ -143,9 +143,9 @@ fn put_rows(
     alloc: Global,
     pick: &Pick<'_>,
     tree: &TreeSpec,
-    seats: &[Seat],
+    seats: &[TriedSupervisor],
     place: usize,
-    seat: &Seat,
+    seat: &TriedSupervisor,
     groups: &[Group],
     rows: &mut Vec<Row>,
 ) -> Result<(), Halt>
@@ -172,8 +172,8 @@ fn put_rows(
 fn groups_in(
     alloc: Global,
     grain: Grain,
-    seats: &[Seat],
-    seat: &Seat,
+    seats: &[TriedSupervisor],
+    seat: &TriedSupervisor,
 ) -> Result<Vec<Group>, AllocError>
     ensures { IfOk result (λ found. found.items ≡ groups_in grain seats.now seat.now) }
 {
@@ -193,9 +193,9 @@ fn put_seat(
     grain: Grain,
     pick: &Pick<'_>,
     tree: &TreeSpec,
-    seats: &[Seat],
+    seats: &[TriedSupervisor],
     place: usize,
-    seat: &Seat,
+    seat: &TriedSupervisor,
     rows: &mut Vec<Row>,
 ) -> Result<(), Halt>
     ensures { OnOk result (PutsRanked (HaveRows pick.now tree.now seats.now place seat.now (groups_in grain seats.now seat.now)) rows.old.items rows.new.items) }

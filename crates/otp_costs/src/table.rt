@@ -5,12 +5,12 @@ ghost use Rattle.std.specs.List.{flat_map};
 ghost use Rattle.otp_costs.specs.Table.{affected_text, alike_text, below_text, children_end, children_text, clip, crash_text, damage_text, ends_text, entry_end, entry_text, first_text, giver_text, list_text, named_text, names_text, names_width, rest_text, root_column, root_text, row_text, some_text, supervisors_text, table_text, title_of, title_text, titles, word_of};
 ghost use Rattle.otp_costs.specs.declared.table.TheConstants.{SHOWN, WIDTH};
 
-use crate::pick::put_name;
+use crate::limits::{Fate, MOST_FALLS, Path, supervisor_path};
+use crate::pick::put_below;
 use crate::rows::Row;
 use crate::words::{
     write_burst, write_clock, write_gone, write_interval, write_left, write_right, write_spaces,
 };
-use otp_limits::{Fate, MOST_FALLS, Path, supervisor_path};
 use otp_reason::Name;
 use otp_text::write_number;
 use std::alloc::{AllocError, Global};
@@ -62,7 +62,7 @@ fn write_alike(count: usize, out: &mut Vec<u8>) -> Result<(), AllocError>
 pub fn put_title(row: &Row, word: &mut Vec<u8>) -> Result<(), AllocError>
     ensures { OnOk result (word.new.items ≡ title_of row.now) }
 {
-    put_name(row.path.as_bytes(), &row.own.id, word)?;
+    put_below(row.path.as_bytes(), &row.own.id, word)?;
     write_alike(row.names.as_slice().len(), word)
 }
 
@@ -208,7 +208,7 @@ fn write_children(
 {
     let mut column = column;
     for name in names {
-        put_name(path, name, word)?;
+        put_below(path, name, word)?;
         column = write_entry(column, word.as_slice(), out)?;
     }
     Ok(column)
@@ -331,7 +331,7 @@ fn write_crash(row: &Row, word: &mut Vec<u8>, out: &mut Vec<u8>) -> Result<(), A
     ensures { OnOk result (out.new.items ≡ out.old.items ++ crash_text row.now) }
 {
     out.extend_from_slice(b"a crash of ")?;
-    put_name(row.path.as_bytes(), &row.own.id, word)?;
+    put_below(row.path.as_bytes(), &row.own.id, word)?;
     write_clipped(69, word.as_slice(), out)?;
     out.extend_from_slice(b"\n")
 }

@@ -3,7 +3,7 @@
 ghost use Rattle.std.specs.Prelude.{◌≡◌, ◌++◌, OnOk, replicate};
 ghost use Rattle.otp_costs.specs.Words.{are_same, at_left, at_right, burst_text, clock_if, clock_text, gone_text, interval_text, needs_text, reason_text, steady_text};
 
-use otp_limits::{Fate, Steady};
+use crate::limits::{Fate, Steady};
 use otp_text::write_number;
 use std::alloc::AllocError;
 

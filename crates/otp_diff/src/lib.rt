@@ -6,4 +6,5 @@ mod cost;
 mod differ;
 mod seat;
 
+pub use change::Form;
 pub use differ::write_trees_difference;

@@ -2,25 +2,16 @@
 
 ghost use Rattle.std.specs.Prelude.{◌≡◌, ◌<◌, ◌++◌, IfSome, OnOk, is_some, length, position};
 ghost use Rattle.std.specs.List.{flat_map};
-ghost use Rattle.otp_costs.specs.Groups.{below};
-ghost use Rattle.otp_limits.specs.Falls.{supervisor_path};
-ghost use Rattle.otp_diff.specs.Changes.{at_place, changes_text, child_text, entry_if, entry_text, has_id, has_path, is_there, new_if, new_seat_if, new_seat_text, new_text, order_change_text, order_text, pair_text, seat_pair_text, seat_text, supervisor_text};
+ghost use Rattle.otp_diff.specs.Changes.{at_place, changes_text, child_text, entry_if, entry_text, has_id, has_path, is_there, new_if, new_seat_if, new_seat_text, new_text, order_change_text, order_text, pair_text, seat_pair_text, seat_text, supervisor_text, supervisor_title};
 
-use crate::change::{Words, write_flags, write_lone, write_order_change, write_spec};
-use otp_limits::supervisor_path;
+use crate::change::{
+    Form, Words, put_child_title, put_lone_title, put_supervisor_title, write_flags, write_lone,
+    write_order_change, write_spec,
+};
 use otp_reason::Name;
 use otp_spec::ChildSpec;
-use otp_trial::Seat;
+use otp_trial::TriedSupervisor;
 use std::alloc::AllocError;
-
-/// The name of a child of a supervisor with this path.
-fn put_name(path: &[u8], id: &Name, name: &mut Vec<u8>) -> Result<(), AllocError>
-    ensures { OnOk result (name.new.items ≡ below path.now id.now) }
-{
-    name.clear();
-    name.extend_from_slice(path)?;
-    name.extend_from_slice(id.as_bytes())
-}
 
 /// Whether a specification has this id.
 fn has_id(id: &Name, spec: &ChildSpec) -> bool
@@ -48,6 +39,7 @@ fn is_there(id: &Name, specs: &[ChildSpec]) -> bool
 /// Appends what differs in a child of a supervisor with this path, and the child at this place in the other tree.
 #[tactic(auto, unfolding(crate::specs::Changes::pair_text))]
 fn write_pair(
+    form: Form,
     path: &[u8],
     spec: &ChildSpec,
     others: &[ChildSpec],
@@ -57,17 +49,18 @@ fn write_pair(
     out: &mut Vec<u8>,
 ) -> Result<(), AllocError>
     requires { IfSome place (λ at. at < length others.now) }
-    ensures { OnOk result (out.new.items ≡ out.old.items ++ pair_text path.now spec.now (at_place others.now place)) }
+    ensures { OnOk result (out.new.items ≡ out.old.items ++ pair_text form path.now spec.now (at_place others.now place)) }
 {
-    put_name(path, &spec.id, name)?;
+    put_child_title(form, path, &spec.id, &mut words.one, name)?;
     match place {
-        None => write_lone(b"- ", name.as_slice(), out),
-        Some(place) => write_spec(name.as_slice(), spec, &others[place], words, out),
+        None => write_lone(form, false, name.as_slice(), out),
+        Some(place) => write_spec(form, name.as_slice(), spec, &others[place], words, out),
     }
 }
 
 /// Appends what differs in a child of a supervisor with this path, which has those children in the other tree.
 fn write_child(
+    form: Form,
     path: &[u8],
     others: &[ChildSpec],
     spec: &ChildSpec,
@@ -75,9 +68,10 @@ fn write_child(
     words: &mut Words,
     out: &mut Vec<u8>,
 ) -> Result<(), AllocError>
-    ensures { OnOk result (out.new.items ≡ out.old.items ++ child_text path.now others.now spec.now) }
+    ensures { OnOk result (out.new.items ≡ out.old.items ++ child_text form path.now others.now spec.now) }
 {
     write_pair(
+        form,
         path,
         spec,
         others,
@@ -90,6 +84,7 @@ fn write_child(
 
 /// Appends what differs in children.
 fn write_children(
+    form: Form,
     path: &[u8],
     others: &[ChildSpec],
     specs: &[ChildSpec],
@@ -97,10 +92,10 @@ fn write_children(
     words: &mut Words,
     out: &mut Vec<u8>,
 ) -> Result<(), AllocError>
-    ensures { OnOk result (out.new.items ≡ out.old.items ++ flat_map (child_text path.now others.now) specs.now) }
+    ensures { OnOk result (out.new.items ≡ out.old.items ++ flat_map (child_text form path.now others.now) specs.now) }
 {
     for spec in specs {
-        write_child(path, others, spec, name, words, out)?;
+        write_child(form, path, others, spec, name, words, out)?;
     }
     Ok(())
 }
@@ -108,33 +103,37 @@ fn write_children(
 /// Appends a child that the other tree has alone.
 #[tactic(auto, unfolding(crate::specs::Changes::new_if))]
 fn write_new(
+    form: Form,
     path: &[u8],
     olds: &[ChildSpec],
     spec: &ChildSpec,
+    word: &mut Vec<u8>,
     name: &mut Vec<u8>,
     out: &mut Vec<u8>,
 ) -> Result<(), AllocError>
-    ensures { OnOk result (out.new.items ≡ out.old.items ++ new_text path.now olds.now spec.now) }
+    ensures { OnOk result (out.new.items ≡ out.old.items ++ new_text form path.now olds.now spec.now) }
 {
     if is_there(&spec.id, olds) {
         return Ok(());
     }
-    put_name(path, &spec.id, name)?;
-    write_lone(b"+ ", name.as_slice(), out)
+    put_child_title(form, path, &spec.id, word, name)?;
+    write_lone(form, true, name.as_slice(), out)
 }
 
 /// Appends the children that the other tree has alone.
 fn write_all_new(
+    form: Form,
     path: &[u8],
     olds: &[ChildSpec],
     specs: &[ChildSpec],
+    word: &mut Vec<u8>,
     name: &mut Vec<u8>,
     out: &mut Vec<u8>,
 ) -> Result<(), AllocError>
-    ensures { OnOk result (out.new.items ≡ out.old.items ++ flat_map (new_text path.now olds.now) specs.now) }
+    ensures { OnOk result (out.new.items ≡ out.old.items ++ flat_map (new_text form path.now olds.now) specs.now) }
 {
     for spec in specs {
-        write_new(path, olds, spec, name, out)?;
+        write_new(form, path, olds, spec, word, name, out)?;
     }
     Ok(())
 }
@@ -167,20 +166,23 @@ fn write_order(
 
 /// Appends the order of the children that both have, where it differs.
 fn write_orders(
+    form: Form,
     path: &[u8],
     olds: &[ChildSpec],
     news: &[ChildSpec],
+    name: &mut Vec<u8>,
     words: &mut Words,
     out: &mut Vec<u8>,
 ) -> Result<(), AllocError>
-    ensures { OnOk result (out.new.items ≡ out.old.items ++ order_change_text (supervisor_path path.now) (order_text news.now olds.now) (order_text olds.now news.now)) }
+    ensures { OnOk result (out.new.items ≡ out.old.items ++ order_change_text form (supervisor_title form path.now) (order_text news.now olds.now) (order_text olds.now news.now)) }
 {
-    words.one.clear();
-    words.other.clear();
+    words.clear();
     write_order(news, olds, &mut words.one)?;
     write_order(olds, news, &mut words.other)?;
+    put_supervisor_title(form, path, name)?;
     write_order_change(
-        supervisor_path(path),
+        form,
+        name.as_slice(),
         words.one.as_slice(),
         words.other.as_slice(),
         out,
@@ -190,37 +192,48 @@ fn write_orders(
 /// Appends what differs in two supervisors with this path.
 #[tactic(auto, unfolding(crate::specs::Changes::supervisor_text))]
 fn write_supervisor(
+    form: Form,
     path: &[u8],
-    a: &Seat,
-    b: &Seat,
+    a: &TriedSupervisor,
+    b: &TriedSupervisor,
     name: &mut Vec<u8>,
     words: &mut Words,
     out: &mut Vec<u8>,
 ) -> Result<(), AllocError>
-    ensures { OnOk result (out.new.items ≡ out.old.items ++ supervisor_text path.now a.now b.now) }
+    ensures { OnOk result (out.new.items ≡ out.old.items ++ supervisor_text form path.now a.now b.now) }
 {
     let (one, other) = (a.supervisor(), b.supervisor());
+    put_supervisor_title(form, path, name)?;
     write_flags(
-        supervisor_path(path),
+        form,
+        name.as_slice(),
         &one.flags(),
         &other.flags(),
         words,
         out,
     )?;
-    write_children(path, other.specs(), one.specs(), name, words, out)?;
-    write_all_new(path, one.specs(), other.specs(), name, out)?;
-    write_orders(path, one.specs(), other.specs(), words, out)
+    write_children(form, path, other.specs(), one.specs(), name, words, out)?;
+    write_all_new(
+        form,
+        path,
+        one.specs(),
+        other.specs(),
+        &mut words.one,
+        name,
+        out,
+    )?;
+    write_orders(form, path, one.specs(), other.specs(), name, words, out)
 }
 
 /// Whether a supervisor has this path.
-fn has_path(path: &[u8], seat: &Seat) -> bool
+fn has_path(path: &[u8], seat: &TriedSupervisor) -> bool
     ensures { result ≡ has_path path.now seat.now }
 {
     seat.path() == path
 }
 
 /// The place of the supervisor with this path.
-fn seat_place_of(path: &[u8], seats: &[Seat]) -> Option<usize>
+fn seat_place_of(path: &[u8], seats: &[TriedSupervisor]) -> Option<usize>
     ensures place { result ≡ position (has_path path.now) seats.now }
     ensures inside { IfSome result (λ place. place < length seats.now) }
 {
@@ -228,7 +241,7 @@ fn seat_place_of(path: &[u8], seats: &[Seat]) -> Option<usize>
 }
 
 /// Whether there is a supervisor with this path.
-fn is_seat_there(path: &[u8], seats: &[Seat]) -> bool
+fn is_seat_there(path: &[u8], seats: &[TriedSupervisor]) -> bool
     ensures { result ≡ is_some (position (has_path path.now) seats.now) }
 {
     seat_place_of(path, seats).is_some()
@@ -237,33 +250,41 @@ fn is_seat_there(path: &[u8], seats: &[Seat]) -> bool
 /// Appends what differs in a supervisor, and the one at this place in the other tree.
 #[tactic(auto, unfolding(crate::specs::Changes::seat_pair_text))]
 fn write_seat_pair(
-    seat: &Seat,
-    others: &[Seat],
+    form: Form,
+    seat: &TriedSupervisor,
+    others: &[TriedSupervisor],
     place: Option<usize>,
     name: &mut Vec<u8>,
     words: &mut Words,
     out: &mut Vec<u8>,
 ) -> Result<(), AllocError>
     requires { IfSome place (λ at. at < length others.now) }
-    ensures { OnOk result (out.new.items ≡ out.old.items ++ seat_pair_text seat.now (at_place others.now place)) }
+    ensures { OnOk result (out.new.items ≡ out.old.items ++ seat_pair_text form seat.now (at_place others.now place)) }
 {
     match place {
-        None => write_lone(b"- ", seat.path(), out),
-        Some(place) => { write_supervisor(seat.path(), seat, &others[place], name, words, out) }
+        None => {
+            put_lone_title(form, seat.path(), name)?;
+            write_lone(form, false, name.as_slice(), out)
+        }
+        Some(place) => {
+            write_supervisor(form, seat.path(), seat, &others[place], name, words, out)
+        }
     }
 }
 
 /// Appends what differs in a supervisor, where the other tree has those.
 fn write_seat(
-    others: &[Seat],
-    seat: &Seat,
+    form: Form,
+    others: &[TriedSupervisor],
+    seat: &TriedSupervisor,
     name: &mut Vec<u8>,
     words: &mut Words,
     out: &mut Vec<u8>,
 ) -> Result<(), AllocError>
-    ensures { OnOk result (out.new.items ≡ out.old.items ++ seat_text others.now seat.now) }
+    ensures { OnOk result (out.new.items ≡ out.old.items ++ seat_text form others.now seat.now) }
 {
     write_seat_pair(
+        form,
         seat,
         others,
         seat_place_of(seat.path(), others),
@@ -275,37 +296,51 @@ fn write_seat(
 
 /// Appends what differs in supervisors.
 fn write_seats(
-    others: &[Seat],
-    seats: &[Seat],
+    form: Form,
+    others: &[TriedSupervisor],
+    seats: &[TriedSupervisor],
     name: &mut Vec<u8>,
     words: &mut Words,
     out: &mut Vec<u8>,
 ) -> Result<(), AllocError>
-    ensures { OnOk result (out.new.items ≡ out.old.items ++ flat_map (seat_text others.now) seats.now) }
+    ensures { OnOk result (out.new.items ≡ out.old.items ++ flat_map (seat_text form others.now) seats.now) }
 {
     for seat in seats {
-        write_seat(others, seat, name, words, out)?;
+        write_seat(form, others, seat, name, words, out)?;
     }
     Ok(())
 }
 
 /// Appends a supervisor that the other tree has alone.
 #[tactic(auto, unfolding(crate::specs::Changes::new_seat_if))]
-fn write_new_seat(olds: &[Seat], seat: &Seat, out: &mut Vec<u8>) -> Result<(), AllocError>
-    ensures { OnOk result (out.new.items ≡ out.old.items ++ new_seat_text olds.now seat.now) }
+fn write_new_seat(
+    form: Form,
+    olds: &[TriedSupervisor],
+    seat: &TriedSupervisor,
+    name: &mut Vec<u8>,
+    out: &mut Vec<u8>,
+) -> Result<(), AllocError>
+    ensures { OnOk result (out.new.items ≡ out.old.items ++ new_seat_text form olds.now seat.now) }
 {
     if is_seat_there(seat.path(), olds) {
         return Ok(());
     }
-    write_lone(b"+ ", seat.path(), out)
+    put_lone_title(form, seat.path(), name)?;
+    write_lone(form, true, name.as_slice(), out)
 }
 
 /// Appends the supervisors that the other tree has alone.
-fn write_new_seats(olds: &[Seat], seats: &[Seat], out: &mut Vec<u8>) -> Result<(), AllocError>
-    ensures { OnOk result (out.new.items ≡ out.old.items ++ flat_map (new_seat_text olds.now) seats.now) }
+fn write_new_seats(
+    form: Form,
+    olds: &[TriedSupervisor],
+    seats: &[TriedSupervisor],
+    name: &mut Vec<u8>,
+    out: &mut Vec<u8>,
+) -> Result<(), AllocError>
+    ensures { OnOk result (out.new.items ≡ out.old.items ++ flat_map (new_seat_text form olds.now) seats.now) }
 {
     for seat in seats {
-        write_new_seat(olds, seat, out)?;
+        write_new_seat(form, olds, seat, name, out)?;
     }
     Ok(())
 }
@@ -313,14 +348,15 @@ fn write_new_seats(olds: &[Seat], seats: &[Seat], out: &mut Vec<u8>) -> Result<(
 /// Appends all that differs in flags and children.
 #[tactic(auto, unfolding(crate::specs::Changes::changes_text))]
 pub(crate) fn write_changes(
-    olds: &[Seat],
-    news: &[Seat],
+    form: Form,
+    olds: &[TriedSupervisor],
+    news: &[TriedSupervisor],
     name: &mut Vec<u8>,
     words: &mut Words,
     out: &mut Vec<u8>,
 ) -> Result<(), AllocError>
-    ensures { OnOk result (out.new.items ≡ out.old.items ++ changes_text olds.now news.now) }
+    ensures { OnOk result (out.new.items ≡ out.old.items ++ changes_text form olds.now news.now) }
 {
-    write_seats(news, olds, name, words, out)?;
-    write_new_seats(olds, news, out)
+    write_seats(form, news, olds, name, words, out)?;
+    write_new_seats(form, olds, news, name, out)
 }

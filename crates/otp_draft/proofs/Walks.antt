@@ -1,7 +1,7 @@
 -- The plan of a tree has its supervisors in the order of the walk.
 use Rattle.std.proofs.Common.{◌≡◌, ℕ, ◌+◌, List, [], ◌∷◌, ◌++◌, map, length, arith, refl, ap, ◌∙◌, length-append}
 use Rattle.std.proofs.lemmas.List.{map-append}
-use Rattle.otp_bridge.specs.declared.bridge.BridgePhase.TheVariants.{New}
+use Rattle.otp_job.specs.declared.bridge.bridge.BridgePhase.TheVariants.{New}
 use Rattle.otp_job.specs.declared.body.Body.{Body}
 use Rattle.otp_job.specs.declared.body.Body.TheVariants as body
 use Rattle.otp_draft.specs.Drawings.{Drawing, Alone, Worker, Bridge, Above, Template, bodies_of, below, count, flags_of, specs_of, top, tree_of, walk}

@@ -1,7 +1,7 @@
 -- How a tree is drawn up, and its supervisors as a walk over it meets them: each before those below its own children, and
 -- those below an earlier child before those below a later one. (own)
 use Rattle.std.specs.Prelude.{◌≡◌, ◌+◌, ℕ, List, [], ◌∷◌, ◌++◌}
-use Rattle.otp_bridge.specs.declared.bridge.BridgePhase.TheVariants.{New}
+use Rattle.otp_job.specs.declared.bridge.bridge.BridgePhase.TheVariants.{New}
 use Rattle.otp_job.specs.declared.body.Body.{Body}
 use Rattle.otp_job.specs.declared.body.Body.TheVariants as body
 use Rattle.otp_spec.specs.declared.child.ChildSpec.{ChildSpec}

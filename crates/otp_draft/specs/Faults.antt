@@ -1,6 +1,6 @@
 -- Why a child is not added to a supervisor that is drawn up, or a tree not finished. (own)
 use Rattle.std.specs.Prelude.{◌+◌, Bool, true, false, not, nat_le, nat_lt, Option, Some, None, ⊤, length, if◌then◌else◌}
-use Rattle.otp_bridge.specs.declared.bridge.BridgePhase.TheVariants.{New}
+use Rattle.otp_job.specs.declared.bridge.bridge.BridgePhase.TheVariants.{New}
 use Rattle.otp_job.specs.declared.body.Body.TheVariants as body
 use Rattle.otp_spec.specs.Flags.{is_simple}
 use Rattle.otp_spec.specs.Supervisor.{IsLawful, supervisor_fault}

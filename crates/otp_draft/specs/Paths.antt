@@ -28,16 +28,16 @@ abbrev pub or_none : Option (List ℕ) → List ℕ
 or_none None = []
 or_none (Some prefix) = prefix
 
--- the same of the next supervisor, which is this child of the one so many places before it
+-- what the children of the next supervisor have in front, which is this child of the one so many places before it
 abbrev pub next_prefix : List (List ℕ) → Nested → List ℕ
 next_prefix before one = prefix_below (or_none (slice_get before (length before - one.behind))) one.id
 
--- the same of all, behind those that stand before them
+-- what the children of all of these have in front, behind those that stand before them
 abbrev pub prefixes_behind : List (List ℕ) → List Nested → List (List ℕ)
 prefixes_behind before [] = before
 prefixes_behind before (one ∷ others) = prefixes_behind (before ++ next_prefix before one ∷ []) others
 
--- the same of a tree that was drawn up
+-- what the children of each supervisor of a tree that was drawn up have in front
 abbrev pub prefixes_of : {J S : Type 0} → Tree J S → List (List ℕ)
 prefixes_of t = prefixes_behind ([] ∷ []) t.nested
 

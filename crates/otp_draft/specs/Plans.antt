@@ -7,7 +7,7 @@ use Rattle.otp_spec.specs.Supervisor.{Supervisor}
 use Rattle.otp_spec.specs.declared.child.ChildSpec.{ChildSpec}
 use Rattle.otp_spec.specs.declared.flags.SupFlags.{SupFlags}
 use Rattle.otp_spec.specs.declared.limits.TheConstants.{MAX_TABLES}
-use Rattle.otp_draft.specs.declared.plan.TablePlan.{TablePlan}
+use Rattle.otp_draft.specs.declared.plan.DraftedTable.{DraftedTable}
 
 -- how many children are handed a body: none where they are dynamic
 -- (Supervisor Behaviour, Simplified one_for_one Supervisors)
@@ -42,9 +42,9 @@ module _ {J S : Type 0} where
   numbered number (plan ∷ plans) = numbered_one number plan ∷ numbered (number + 1) plans
 
   -- the plan has a body for each child that its supervisor starts
-  abbrev pub HasAllBodies : TablePlan J S → Type 0
+  abbrev pub HasAllBodies : DraftedTable J S → Type 0
   HasAllBodies plan = length plan.bodies.items ≡ wanted plan.supervisor.flags plan.supervisor.specs
 
   -- what a plan says
-  abbrev pub seen : TablePlan J S → Planned J S
+  abbrev pub seen : DraftedTable J S → Planned J S
   seen plan = record { supervisor = plan.supervisor; bodies = plan.bodies.items }

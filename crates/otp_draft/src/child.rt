@@ -5,7 +5,7 @@ ghost use Rattle.otp_draft.specs.Faults.{is_template};
 ghost use Rattle.otp_draft.specs.Kinds.{bridge_of, supervisor_of, template_of, worker_of};
 
 use crate::draft::TreeDraft;
-use otp_bridge::BoxedSubsystem;
+use otp_job::bridge::BoxedSubsystem;
 use otp_reason::Name;
 use otp_spec::{ChildSpec, ChildType, Modules, Restart, Shutdown};
 

@@ -15,8 +15,8 @@ use crate::child::{Child, Runs};
 use crate::fault::{DraftFault, Refused};
 use crate::limits::MAX_DEPTH;
 use crate::paths::{Nested, TreePath, find_path, paths_of};
-use crate::plan::{PlannedTable, TablePlan, TreePlan};
-use otp_bridge::{BoxedSubsystem, Bridge};
+use crate::plan::{DraftedTable, PlannedTable, TreePlan};
+use otp_job::bridge::{BoxedSubsystem, Bridge};
 use otp_job::{Body, TableNo};
 use otp_spec::{
     ChildSpec, ChildType, MAX_CHILDREN, MAX_TABLES, Shutdown, SpecFault, SpecKey, SupFlags,
@@ -148,7 +148,7 @@ fn make_room<J: Drop, S: Drop>(
 fn plan_room<J: Drop, S: Drop>(
     alloc: Global,
     count: usize,
-) -> Result<(Vec<PlannedTable<J, S>>, Vec<TablePlan<J, S>>), AllocError>
+) -> Result<(Vec<PlannedTable<J, S>>, Vec<DraftedTable<J, S>>), AllocError>
     ensures tables { IfOk result (λ rooms. rooms.0.items ≡ []) }
     ensures plans { IfOk result (λ rooms. rooms.1.items ≡ []) }
     ensures tables_room { IfOk result (λ rooms. count ≤ vec_capacity rooms.0) }
@@ -623,7 +623,7 @@ impl<J: Drop, S: Drop> TreeDraft<J, S> {
     fn into_plan(
         self,
         tables: Vec<PlannedTable<J, S>>,
-        room: Vec<TablePlan<J, S>>,
+        room: Vec<DraftedTable<J, S>>,
     ) -> TreePlan<J, S>
         requires lawful { IsLawful self.flags self.specs }
         requires empty { tables.items ≡ [] }

@@ -29,4 +29,4 @@ pub use draft::TreeDraft;
 pub use fault::{DraftFault, Refused};
 pub use limits::MAX_DEPTH;
 pub use paths::{Nested, TreePath, find_path};
-pub use plan::{TablePlan, TreePlan, number_bodies};
+pub use plan::{DraftedTable, TreePlan, number_bodies};

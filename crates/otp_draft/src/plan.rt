@@ -13,12 +13,12 @@ use std::marker::Model;
 /// The supervisors of a tree are numbered in the order in which they stand in the list that is opened; the root is the
 /// first. The body of a child that is a supervisor is its number ([`Body::Sup`]).
 #[derive(Drop)]
-pub struct TablePlan<J: Drop, S: Drop> {
+pub struct DraftedTable<J: Drop, S: Drop> {
     pub supervisor: SupSpec,
     pub bodies: Vec<Body<J, S>>,
 }
 
-/// A [`TablePlan`] before the supervisors are numbered: the number of a child that is a supervisor says how many places behind
+/// A [`DraftedTable`] before the supervisors are numbered: the number of a child that is a supervisor says how many places behind
 /// its parent it stands in the list.
 #[derive(Drop)]
 pub(crate) struct PlannedTable<J: Drop, S: Drop> {
@@ -48,7 +48,7 @@ impl<J: Drop, S: Drop> PlannedTable<J, S> {
     }
 
     /// The supervisor under its number. Takes no memory.
-    fn numbered(self, number: usize) -> TablePlan<J, S>
+    fn numbered(self, number: usize) -> DraftedTable<J, S>
         requires { number < MAX_TABLES }
         ensures plan { seen result ≡ numbered_one number self }
         ensures bodies { HasAllBodies result }
@@ -58,7 +58,7 @@ impl<J: Drop, S: Drop> PlannedTable<J, S> {
             mut bodies,
         } = self;
         number_bodies(&mut bodies, number);
-        TablePlan { supervisor, bodies }
+        DraftedTable { supervisor, bodies }
     }
 }
 
@@ -102,7 +102,7 @@ pub fn number_bodies<J: Drop, S: Drop>(bodies: &mut Vec<Body<J, S>>, number: usi
 #[derive(Drop)]
 pub struct TreePlan<J: Drop, S: Drop> {
     tables: Vec<PlannedTable<J, S>>,
-    room: Vec<TablePlan<J, S>>,
+    room: Vec<DraftedTable<J, S>>,
 }
 
 impl<J: Drop, S: Drop> Model for TreePlan<J, S> {
@@ -120,7 +120,7 @@ impl<J: Drop, S: Drop> Model for TreePlan<J, S> {
 
 impl<J: Drop, S: Drop> TreePlan<J, S> {
     /// The plan of these supervisors, with room for each.
-    pub(crate) fn new(tables: Vec<PlannedTable<J, S>>, room: Vec<TablePlan<J, S>>) -> Self
+    pub(crate) fn new(tables: Vec<PlannedTable<J, S>>, room: Vec<DraftedTable<J, S>>) -> Self
         requires some { 0 < length tables.items }
         requires few { length tables.items ≤ MAX_TABLES }
         requires empty { room.items ≡ [] }
@@ -141,7 +141,7 @@ impl<J: Drop, S: Drop> TreePlan<J, S> {
 
     /// Its supervisors, where the root has this number and the others those that follow: 0 where a tree is opened. Takes no
     /// memory.
-    pub fn numbered(self, first: usize) -> Vec<TablePlan<J, S>>
+    pub fn numbered(self, first: usize) -> Vec<DraftedTable<J, S>>
         requires { first + length self ≤ MAX_TABLES }
         ensures plans { map seen result.items ≡ numbered first self }
         ensures count { length result.items ≡ length self }
@@ -154,7 +154,7 @@ impl<J: Drop, S: Drop> TreePlan<J, S> {
 }
 
 /// Puts a supervisor behind the others, for which there is room.
-fn put_plan<J: Drop, S: Drop>(plans: &mut Vec<TablePlan<J, S>>, plan: TablePlan<J, S>)
+fn put_plan<J: Drop, S: Drop>(plans: &mut Vec<DraftedTable<J, S>>, plan: DraftedTable<J, S>)
     requires full { All HasAllBodies plans.old.items }
     requires plan { HasAllBodies plan }
     requires room { vec_len plans.old < vec_capacity plans.old }
@@ -169,9 +169,9 @@ fn put_plan<J: Drop, S: Drop>(plans: &mut Vec<TablePlan<J, S>>, plan: TablePlan<
 /// Supervisors under their numbers, from this one on.
 fn number_all<J: Drop, S: Drop>(
     tables: Vec<PlannedTable<J, S>>,
-    room: Vec<TablePlan<J, S>>,
+    room: Vec<DraftedTable<J, S>>,
     first: usize,
-) -> Vec<TablePlan<J, S>>
+) -> Vec<DraftedTable<J, S>>
     requires few { first + length tables.items ≤ MAX_TABLES }
     requires empty { room.items ≡ [] }
     requires room { length tables.items ≤ vec_capacity room }

@@ -5,9 +5,9 @@ use Rattle.std.proofs.Common.{◌∙◌, ap, arith, inl, inr, subst, sym}
 use Rattle.std.proofs.lemmas.List.{get_or_default}
 use Rattle.std.proofs.lemmas.Option.{none-some}
 use Rattle.otp_core.specs.Happened.{number_after}
-use Rattle.otp_driven.specs.Members.{Happens, Member, has_order, passed, state_in}
-use Rattle.otp_driven.specs.Links.{asked, begun, told}
-use Rattle.otp_driven.specs.declared.link.Link.{Link}
+use Rattle.otp_driver.specs.Members.{Happens, Member, has_order, passed, state_in}
+use Rattle.otp_driver.specs.Links.{asked, begun, told}
+use Rattle.otp_driver.specs.declared.driven.link.Link.{Link}
 use Rattle.otp_rules.specs.declared.event.Item.TheVariants as item
 use Rattle.otp_rules.specs.declared.event.Kind.TheVariants as kind
 use Rattle.otp_driver.specs.Driven.{ByItself, Does, Driven, HasLink, IsAt, IsNext, Occurs, Relinks, Routed, Takes, comes_at, with_link}

@@ -1,9 +1,9 @@
 -- The parts of a tree that goes on under another file.
 use Rattle.std.specs.Prelude.{◌≡◌, ◌+◌, ◌<◌, ℕ, List, [], ◌∷◌, ◌++◌, Option, None, Some, length, refl}
 use Rattle.std.proofs.Common.{◌∙◌, ap, append_assoc, arith, inl, inr, length-append, subst, suc, sym, zero}
-use Rattle.otp_driven.specs.Links.{HaveParents}
-use Rattle.otp_driven.specs.Members.{Member}
-use Rattle.otp_driven.specs.declared.link.Link.{Link}
+use Rattle.otp_driver.specs.Links.{HaveParents}
+use Rattle.otp_driver.specs.Members.{Member}
+use Rattle.otp_driver.specs.declared.driven.link.Link.{Link}
 use Rattle.otp_driver.specs.Changed.{IsHeldAt, IsHeldFrom, MayGoOnAs, MayGoOnFrom, at_origin, link_on, links_from, member_on, members_from, origin_at}
 use Rattle.otp_driver.specs.declared.changing.Unchanged.{Unchanged}
 

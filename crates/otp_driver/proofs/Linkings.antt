@@ -5,8 +5,8 @@ use Rattle.std.proofs.Common.{◌∙◌, ap, append_assoc, append-nil, arith, su
 use Rattle.std.proofs.lemmas.List.{drop_all, drop_more, length-append, length-map}
 use Rattle.std.proofs.lemmas.Option.{get_or_from_slice_get, slice_get-map, slice_get_within}
 use Rattle.otp_file.specs.Trees.{Table, Tree, tables_of}
-use Rattle.otp_driven.specs.declared.link.Link.{Link}
-use Rattle.otp_driven.specs.Links.{first_link}
+use Rattle.otp_driver.specs.declared.driven.link.Link.{Link}
+use Rattle.otp_driver.specs.Links.{first_link}
 use Rattle.otp_driver.specs.Driven.{Driven}
 use Rattle.otp_driver.specs.Opened.{AddsLinks, AddsTree, AreLinks, IsPlanted, links_from, links_of, links_under, nothing}
 

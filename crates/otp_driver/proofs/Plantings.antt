@@ -4,7 +4,7 @@ use Rattle.std.specs.List.{flat_map}
 use Rattle.std.proofs.Common.{◌∙◌, ap, append_assoc, append-nil}
 use Rattle.std.proofs.lemmas.Grind.{flat_map-append}
 use Rattle.otp_file.specs.Trees.{Table, Tree, tables_of}
-use Rattle.otp_driven.specs.Members.{Member, unopened}
+use Rattle.otp_driver.specs.Members.{Member, unopened}
 use Rattle.otp_driver.specs.Driven.{Driven}
 use Rattle.otp_driver.specs.Opened.{AddsTables, AddsTree, ArePlanted}
 

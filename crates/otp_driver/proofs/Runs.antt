@@ -7,16 +7,16 @@ use Rattle.otp_rules.specs.declared.call.Call.{Call}
 use Rattle.otp_rules.specs.declared.event.Effect.{Effect}
 use Rattle.otp_rules.specs.declared.event.Item.TheVariants as item
 use Rattle.otp_rules.specs.declared.event.Kind.TheVariants as kind
-use Rattle.otp_driven.specs.declared.link.Link.{Link}
-use Rattle.otp_driven.specs.Links.{asked}
-use Rattle.otp_driven.specs.Members.{Member, has_order, state_in}
+use Rattle.otp_driver.specs.declared.driven.link.Link.{Link}
+use Rattle.otp_driver.specs.Links.{asked}
+use Rattle.otp_driver.specs.Members.{Member, has_order, state_in}
 use Rattle.otp_driver.specs.declared.order.Order.{Order}
 use Rattle.otp_driver.specs.declared.order.What.{What}
 use Rattle.otp_driver.specs.declared.route.Route.{Route}
 use Rattle.otp_driver.specs.declared.route.Route.TheVariants.{Outside}
 use Rattle.otp_driver.specs.Orders.{what_of}
 use Rattle.otp_file.specs.Trees.{Table, Tree}
-use Rattle.otp_driven.specs.Members.{unopened}
+use Rattle.otp_driver.specs.Members.{unopened}
 use Rattle.otp_driver.specs.Changed.{Changes, changed_from, origins_of}
 use Rattle.otp_driver.specs.Opened.{ArePlanted, IsPlanted}
 use Rattle.otp_driver.specs.Driven.{at_reading, comes, comes_at, Called, Does, Driven, IsAsked, IsAt, IsIdle, IsNext, IsOutside, Occurs, Relinks, Step, Takes, Through}

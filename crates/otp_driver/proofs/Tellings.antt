@@ -9,11 +9,11 @@ use Rattle.otp_rules.specs.declared.call.Answered.{Answered}
 use Rattle.otp_table.specs.declared.row.Row.{Row}
 use Rattle.otp_driver.specs.declared.route.Route.{Route}
 use Rattle.otp_driver.specs.Driven.{Driven, IsAt, IsNext, IsOutside}
-use Rattle.otp_driven.specs.Members.{Member, state_in}
+use Rattle.otp_driver.specs.Members.{Member, state_in}
 use Rattle.otp_driver.specs.Orders.{what_of}
 use Rattle.otp_driver.specs.Routes.{route_of}
 use Rattle.otp_driver.specs.Sessions.{AnswersAt, IsReplyNext, IsToldAt, KeepsAt, KeepsOf}
-use Rattle.otp_driven.specs.Replies.{IsAnswerTo}
+use Rattle.otp_driver.specs.Replies.{IsAnswerTo}
 
 same-member : (ms : List Member) (p : ℕ) (a b : Member) → IsAt ms p a → IsAt ms p b → a ≡ b
 same-member ms p a b first second = first.is ∙ (get_or_default ms p a b first.inside ∙ sym second.is)

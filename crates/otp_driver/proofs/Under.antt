@@ -2,10 +2,10 @@
 use Rattle.std.proofs.Common.{◌≡◌, ◌<◌, ℕ, List, [], ◌∷◌, Option, None, Some, ap, arith, get_or, length, refl, suc, zero}
 use Rattle.std.specs.Prelude.{false, is_some, position, slice_get}
 use Rattle.std.specs.List.{list_any}
-use Rattle.otp_driven.specs.declared.link.Link.{Link}
-use Rattle.otp_driven.specs.Links.{holds_process, is_link_near, is_link_under, nested_of}
-use Rattle.otp_driven.specs.Members.{Member, row_at, state_in}
-use Rattle.otp_driven.proofs.Under.{both_off, either, none_nested, nowhere}
+use Rattle.otp_driver.specs.declared.driven.link.Link.{Link}
+use Rattle.otp_driver.specs.Links.{holds_process, is_link_near, is_link_under, nested_of}
+use Rattle.otp_driver.specs.Members.{Member, row_at, state_in}
+use Rattle.otp_driver.proofs.DrivenUnder.{both_off, either, none_nested, nowhere}
 use Rattle.otp_driver.specs.Driven.{Driven, is_nested, is_nested_of}
 
 -- where none is a child of the supervisor, nor runs as the process, no child is a supervisor

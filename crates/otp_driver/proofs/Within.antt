@@ -10,10 +10,10 @@ use Rattle.otp_rules.specs.declared.event.Effect.{Effect}
 use Rattle.otp_rules.specs.declared.event.Effect.TheVariants as effect
 use Rattle.otp_reason.specs.declared.reason.Reason.{Reason}
 use Rattle.otp_table.specs.declared.row.Row.{Row}
-use Rattle.otp_driven.specs.declared.link.Link.{Link}
+use Rattle.otp_driver.specs.declared.driven.link.Link.{Link}
 use Rattle.otp_driver.specs.Driven.{IsAt}
-use Rattle.otp_driven.specs.Links.{HaveParents, first_link, holds_process, is_link_of, nested_of, told}
-use Rattle.otp_driven.specs.Members.{Member, has_order, row_at}
+use Rattle.otp_driver.specs.Links.{HaveParents, first_link, holds_process, is_link_of, nested_of, told}
+use Rattle.otp_driver.specs.Members.{Member, has_order, row_at}
 use Rattle.otp_reason.specs.declared.note.Note.{Note}
 use Rattle.otp_reason.specs.declared.note.Note.TheVariants as note
 use Rattle.otp_driver.specs.Routes.{IsWithin, end_route, ending_in, ready_route, route_of, start_route, stop_route, tell_end, tell_up}

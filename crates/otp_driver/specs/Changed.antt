@@ -11,12 +11,12 @@ use Rattle.otp_rules.specs.Progress.{process_number}
 use Rattle.otp_rules.specs.State.{is_over}
 use Rattle.otp_spec.specs.declared.child.ChildSpec.{ChildSpec}
 use Rattle.otp_table.specs.declared.row.Row.{Row}
-use Rattle.otp_driven.specs.Changed.{IsUnchanged, MayGoOn, changed_member}
-use Rattle.otp_driven.specs.Links.{holds_process, is_link_of, nested_of}
-use Rattle.otp_driven.specs.Members.{Member, row_at, state_in}
-use Rattle.otp_driven.specs.declared.fault.ChangeRefusal.{ChangeRefusal}
-use Rattle.otp_driven.specs.declared.fault.ChangeRefusal.TheVariants.{OutOfMemory, OrdersWait, Runs, Turns}
-use Rattle.otp_driven.specs.declared.link.Link.{Link}
+use Rattle.otp_driver.specs.DrivenChanged.{IsUnchanged, MayGoOn, changed_member}
+use Rattle.otp_driver.specs.Links.{holds_process, is_link_of, nested_of}
+use Rattle.otp_driver.specs.Members.{Member, row_at, state_in}
+use Rattle.otp_driver.specs.declared.driven.fault.ChangeRefusal.{ChangeRefusal}
+use Rattle.otp_driver.specs.declared.driven.fault.ChangeRefusal.TheVariants.{OutOfMemory, OrdersWait, Runs, Turns}
+use Rattle.otp_driver.specs.declared.driven.link.Link.{Link}
 use Rattle.otp_driver.specs.Driven.{Driven}
 use Rattle.otp_driver.specs.Opened.{IsPlanted}
 use Rattle.otp_driver.specs.declared.changing.Unchanged.{Unchanged}

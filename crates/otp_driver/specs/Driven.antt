@@ -9,13 +9,13 @@ use Rattle.otp_rules.specs.declared.event.Kind.{Kind}
 use Rattle.otp_rules.specs.declared.event.Kind.TheVariants as kind
 use Rattle.otp_rules.specs.Next.{earlier, next_deadline, next_kind}
 use Rattle.otp_spec.specs.declared.limits.TheConstants.{MAX_READING}
-use Rattle.otp_driven.specs.declared.fault.DriveFault.{DriveFault}
-use Rattle.otp_driven.specs.declared.fault.DriveFault.TheVariants.{BadReading, IsNested, NoSupervisor, Spent}
-use Rattle.otp_driven.specs.declared.link.Link.{Link}
+use Rattle.otp_driver.specs.declared.driven.fault.DriveFault.{DriveFault}
+use Rattle.otp_driver.specs.declared.driven.fault.DriveFault.TheVariants.{BadReading, IsNested, NoSupervisor, Spent}
+use Rattle.otp_driver.specs.declared.driven.link.Link.{Link}
 use Rattle.otp_driver.specs.declared.route.Route.{Route}
 use Rattle.otp_driver.specs.declared.route.Route.TheVariants.{Outside, Start, Stop, Tell}
-use Rattle.otp_driven.specs.Links.{asked, begun, holds_process, nested_of, runs, told}
-use Rattle.otp_driven.specs.Members.{Happens, IsRefused, Member, has_order, passed, row_at, state_in}
+use Rattle.otp_driver.specs.Links.{asked, begun, holds_process, nested_of, runs, told}
+use Rattle.otp_driver.specs.Members.{Happens, IsRefused, Member, has_order, passed, row_at, state_in}
 use Rattle.otp_driver.specs.Routes.{route_of}
 
 -- a tree: its supervisors by the numbers of their tables, whose child each is, the last reading of the clock, the last process
@@ -36,7 +36,7 @@ pub record IsAt (members : List Member) (place : ℕ) (member : Member) : Type 0
   pub inside : place < length members
   pub is : member ≡ slice_index_or members place member
 
--- and has this link
+-- at this place stands this link
 pub record HasLink (links : List Link) (place : ℕ) (link : Link) : Type 0 where
   pub inside : place < length links
   pub is : link ≡ slice_index_or links place link
@@ -130,7 +130,7 @@ pub record ByItself (old new : Driven) : Type 0 where
   pub place : ℕ
   pub kind : Kind
   pub comes : comes_at old place ≡ Some kind
-  -- and nothing does at those before
+  -- nothing comes by itself at the places before
   pub first : (before : ℕ) → before < place → comes_at old before ≡ None
   pub event : Occurs place kind old new
 

@@ -3,7 +3,7 @@ use Rattle.std.specs.Prelude.{◌≡◌, ◌≤◌, length}
 use Rattle.otp_spec.specs.declared.limits.TheConstants.{MAX_READING}
 use Rattle.otp_driver.specs.declared.driver.Driver.TheInside.{Inside}
 use Rattle.otp_driver.specs.Driven.{Driven}
-use Rattle.otp_driven.specs.Links.{HaveParents}
+use Rattle.otp_driver.specs.Links.{HaveParents}
 
 abbrev pub driven_of : Inside → Driven
 driven_of d = record { members = d.supervisors.items; links = d.links.items; reading = d.reading; last = d.last; calls = d.calls }
@@ -12,5 +12,5 @@ pub record IsDriver (d : Inside) : Type 0 where
   pub reading : d.reading ≤ MAX_READING
   -- each supervisor has a link
   pub links : length d.links.items ≡ length d.supervisors.items
-  -- and a parent that is one of them
+  -- the parent of each is one of them
   pub parents : HaveParents (length d.links.items) d.links.items

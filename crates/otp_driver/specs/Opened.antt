@@ -1,11 +1,11 @@
 -- A tree as it is opened: a supervisor for each table of the file.
 use Rattle.std.specs.Prelude.{◌≡◌, ℕ, ◌+◌, List, [], ◌∷◌, ◌++◌, length, map, None, slice_get}
 use Rattle.otp_file.specs.Trees.{Table, Tree, tables_of}
-use Rattle.otp_driven.specs.declared.link.Link.{Link}
+use Rattle.otp_driver.specs.declared.driven.link.Link.{Link}
 use Rattle.otp_rules.specs.declared.event.Kind.TheVariants as kind
 use Rattle.otp_driver.specs.Driven.{Driven, Occurs}
-use Rattle.otp_driven.specs.Links.{first_link}
-use Rattle.otp_driven.specs.Members.{Member, unopened}
+use Rattle.otp_driver.specs.Links.{first_link}
+use Rattle.otp_driver.specs.Members.{Member, unopened}
 
 -- a supervisor for each table, with its flags and specifications, of which none was opened
 abbrev pub ArePlanted : List Table → List Member → Type 0

@@ -9,7 +9,7 @@ use Rattle.otp_table.specs.declared.row.RowState.TheVariants.{Asked}
 use Rattle.otp_driver.specs.declared.order.Task.{Task}
 use Rattle.otp_driver.specs.declared.order.What.{What}
 use Rattle.otp_driver.specs.declared.order.What.TheVariants as what
-use Rattle.otp_driven.specs.Members.{row_at}
+use Rattle.otp_driver.specs.Members.{row_at}
 use Rattle.otp_driver.specs.Routes.{ending_in}
 
 abbrev pub start_in : Option Row → Option Name

@@ -10,11 +10,11 @@ use Rattle.otp_rules.specs.declared.ending.Ending.TheVariants as ending
 use Rattle.otp_rules.specs.declared.event.Effect.{Effect}
 use Rattle.otp_rules.specs.declared.event.Effect.TheVariants as effect
 use Rattle.otp_table.specs.declared.row.Row.{Row}
-use Rattle.otp_driven.specs.declared.link.Link.{Link}
+use Rattle.otp_driver.specs.declared.driven.link.Link.{Link}
 use Rattle.otp_driver.specs.declared.route.Route.{Route}
 use Rattle.otp_driver.specs.declared.route.Route.TheVariants.{Outside, Start, Stop, Tell}
-use Rattle.otp_driven.specs.Links.{holds_process, nested_of, note_of_end}
-use Rattle.otp_driven.specs.Members.{row_at}
+use Rattle.otp_driver.specs.Links.{holds_process, nested_of, note_of_end}
+use Rattle.otp_driver.specs.Members.{row_at}
 
 -- whom an order reaches is one of so many supervisors
 abbrev pub IsWithin : ℕ → Route → Type 0

@@ -5,7 +5,7 @@ use Rattle.otp_rules.specs.declared.call.Call.{Call}
 use Rattle.otp_rules.specs.declared.event.Item.TheVariants as item
 use Rattle.otp_rules.specs.declared.event.Kind.TheVariants as kind
 use Rattle.otp_file.specs.Trees.{Tree}
-use Rattle.otp_driven.specs.Members.{state_in}
+use Rattle.otp_driver.specs.Members.{state_in}
 use Rattle.otp_driver.specs.Changed.{Changes}
 use Rattle.otp_driver.specs.declared.order.Order.{Order}
 use Rattle.otp_driver.specs.Orders.{what_of}

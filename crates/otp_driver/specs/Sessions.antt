@@ -3,18 +3,18 @@ use Rattle.std.specs.Prelude.{◌≡◌, ◌⊎◌, ℕ, Option, Some, None, Res
 use Rattle.otp_rules.specs.declared.call.Answered.{Answered}
 use Rattle.otp_rules.specs.declared.event.Effect.{Effect}
 use Rattle.otp_rules.specs.declared.event.Effect.TheVariants as effect
-use Rattle.otp_driven.specs.declared.fault.DriveFault.{DriveFault}
-use Rattle.otp_driven.specs.declared.fault.DriveFault.TheVariants.{OutOfMemory}
+use Rattle.otp_driver.specs.declared.driven.fault.DriveFault.{DriveFault}
+use Rattle.otp_driver.specs.declared.driven.fault.DriveFault.TheVariants.{OutOfMemory}
 use Rattle.otp_driver.specs.declared.order.Order.{Order}
 use Rattle.otp_driver.specs.declared.order.What.{What}
 use Rattle.otp_driver.specs.declared.order.What.TheVariants as what
 use Rattle.otp_driver.specs.declared.route.Route.TheVariants.{Outside}
 use Rattle.otp_driver.specs.declared.session.Session.{Session}
 use Rattle.otp_driver.specs.Driven.{Driven, GoesOn, IsAt, IsIdle, IsNext, RefusesMore, Takes}
-use Rattle.otp_driven.specs.Members.{Member, has_order, state_in}
+use Rattle.otp_driver.specs.Members.{Member, has_order, state_in}
 use Rattle.otp_driver.specs.Orders.{what_of}
 use Rattle.otp_driver.specs.Runs.{AllDone, Comes, Ordered, TakesNext}
-use Rattle.otp_driven.specs.Replies.{IsAnswerTo}
+use Rattle.otp_driver.specs.Replies.{IsAnswerTo}
 
 -- the order is what the supervisor at this place orders next
 pub record IsToldAt (place : ℕ) (order : Order) (t : Driven) : Type 0 where

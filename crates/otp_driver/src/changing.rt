@@ -2,13 +2,13 @@
 
 ghost use Rattle.std.specs.Prelude.{◌≡◌, ◌<◌, ◌⊎◌, ℕ, IfErr, IfNone, IfOk, IfSome, None, OnErr, OnOk, Some, false, length, option_map, position, true};
 ghost use Rattle.std.specs.List.{list_any};
-ghost use Rattle.otp_driven.specs.declared.fault.ChangeRefusal.TheVariants.{OutOfMemory};
+ghost use Rattle.otp_driver.specs.declared.driven.fault.ChangeRefusal.TheVariants.{OutOfMemory};
 ghost use Rattle.otp_rules.specs.Progress.{process_number};
 ghost use Rattle.otp_driver.specs.Changed.{Changes, GoesOnAs, IsHeld, IsHeldAt, IsHeldFrom, IsUntied, MayGoOnAs, MayGoOnFrom, RefusesChange, are_same, at_origin, changed_from, child_named, has_untied_row, is_kept, is_link_named, is_link_untied, is_untied, is_untied_row, link_on, links_from, member_on, members_from, origin_after, origin_at, origins_of, stay_fault, stay_fault_at};
 
+use crate::driven::link::{find_process, find_row, nested_of};
+use crate::driven::{ChangeRefusal, Link, Supervisor};
 use crate::driver::Driver;
-use otp_driven::link::{find_process, find_row, nested_of};
-use otp_driven::{ChangeRefusal, Link, Supervisor};
 use otp_file::TreeSpec;
 use otp_reason::Name;
 use otp_spec::ChildSpec;
@@ -27,7 +27,7 @@ pub struct Unchanged {
 
 impl From<AllocError> for Unchanged {
     ghost use Rattle.std.specs.Prelude.{◌≡◌};
-    ghost use Rattle.otp_driven.specs.declared.fault.ChangeRefusal.TheVariants.{OutOfMemory};
+    ghost use Rattle.otp_driver.specs.declared.driven.fault.ChangeRefusal.TheVariants.{OutOfMemory};
 
     ghost from_gives = { λ _ unchanged. unchanged.why ≡ OutOfMemory };
 

@@ -2,9 +2,12 @@
 //!
 //! [`Driver`] does by itself what one supervisor of the tree orders of another, so that the outside sees only processes
 //! that are its own.
+//!
+//! [`driven`] is one supervisor of such a tree, and its link, which says whose child it is.
 #![tactic(auto)]
 
 pub mod changing;
+pub mod driven;
 pub mod driver;
 pub mod laws;
 pub mod order;
@@ -12,9 +15,9 @@ pub mod planting;
 pub mod route;
 pub mod session;
 
+pub use crate::driven::{ChangeRefusal, DriveFault, KEPT_EVENTS, Link, Supervisor};
 pub use changing::Unchanged;
 pub use driver::Driver;
 pub use order::{Order, Task, What};
-pub use otp_driven::{ChangeRefusal, DriveFault, KEPT_EVENTS, Link, Supervisor};
 pub use route::{Route, ending_in};
 pub use session::Session;

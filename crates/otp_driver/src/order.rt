@@ -2,12 +2,12 @@
 
 ghost use Rattle.std.specs.Prelude.{◌≡◌, ℕ, option_map};
 ghost use Rattle.otp_driver.specs.Orders.{deadline_in, start_in, task_of, what_of};
-ghost use Rattle.otp_driven.specs.Members.{state_in};
+ghost use Rattle.otp_driver.specs.Members.{state_in};
 ghost use Rattle.otp_driver.specs.declared.order.What.TheVariants as what;
 ghost use Rattle.otp_rules.specs.declared.event.Effect.TheVariants as effect;
 
+use crate::driven::Supervisor;
 use crate::route::ending_in;
-use otp_driven::Supervisor;
 use otp_reason::{Name, Reason};
 use otp_rules::{Effect, Ending};
 use otp_table::{Row, RowState};

@@ -3,11 +3,11 @@
 ghost use Rattle.std.specs.Prelude.{◌≡◌, ◌≤◌, ℕ, ◌++◌, [], ◌∷◌, IfOk, IfSome, None, OnOk, Some, length, slice_get};
 ghost use Rattle.otp_rules.specs.declared.event.Kind.TheVariants as kind;
 ghost use Rattle.otp_driver.specs.Driven.{Occurs};
-ghost use Rattle.otp_driven.specs.Members.{unopened};
+ghost use Rattle.otp_driver.specs.Members.{unopened};
 ghost use Rattle.otp_driver.specs.Opened.{AddsLinks, AddsTree, IsPlanted, Opens, nothing};
 
+use crate::driven::{DriveFault, Link, Supervisor};
 use crate::driver::Driver;
-use otp_driven::{DriveFault, Link, Supervisor};
 use otp_file::{MAX_DEPTH, TreeSpec};
 use otp_rules::Kind;
 use otp_spec::{ChildSpec, SupSpec};

@@ -3,11 +3,11 @@
 ghost use Rattle.std.specs.Prelude.{◌≡◌, IsTrue, slice_get};
 ghost use Rattle.otp_driver.specs.declared.route.Route.TheVariants.{Outside};
 ghost use Rattle.otp_driver.specs.Routes.{end_route, ending_in, ready_route, route_of, start_route, stop_route};
-ghost use Rattle.otp_driven.specs.Links.{nested_of};
-ghost use Rattle.otp_driven.specs.Members.{row_at, state_in};
+ghost use Rattle.otp_driver.specs.Links.{nested_of};
+ghost use Rattle.otp_driver.specs.Members.{row_at, state_in};
 
-use otp_driven::link::{find_process, has_nested, nested_of, note_of_end};
-use otp_driven::{Link, Supervisor};
+use crate::driven::link::{find_process, has_nested, nested_of, note_of_end};
+use crate::driven::{Link, Supervisor};
 use otp_reason::{Note, Reason};
 use otp_rules::{Cause, Effect, Ending};
 

@@ -4,19 +4,19 @@ ghost use Rattle.std.specs.Prelude.{◌≡◌, ◌<◌, ℕ, IfErr, IfNone, IfOk
 ghost use Rattle.otp_driver.specs.Changed.{Changes, RefusesChange};
 ghost use Rattle.otp_driver.specs.Opened.{Opens};
 ghost use Rattle.otp_driver.specs.Driven.{IsAt, IsNext};
-ghost use Rattle.otp_driven.specs.Members.{Member, state_in};
-ghost use Rattle.otp_driven.specs.Replies.{IsAnswerTo};
+ghost use Rattle.otp_driver.specs.Members.{Member, state_in};
+ghost use Rattle.otp_driver.specs.Replies.{IsAnswerTo};
 ghost use Rattle.otp_driver.specs.Sessions.{AnswersAt, IsReadied, IsToldAt, KeepsAt, NextTold};
-ghost use Rattle.otp_driven.specs.declared.fault.DriveFault.TheVariants.{OutOfMemory};
+ghost use Rattle.otp_driver.specs.declared.driven.fault.DriveFault.TheVariants.{OutOfMemory};
 ghost use Rattle.otp_driver.specs.declared.route.Route.{Route};
 ghost use Rattle.otp_rules.specs.declared.event.Effect.{Effect};
 ghost use Rattle.otp_rules.specs.declared.event.Effect.TheVariants as effect;
 
 use crate::changing::Unchanged;
+use crate::driven::{DriveFault, Supervisor};
 use crate::driver::Driver;
 use crate::order::{Order, what_of};
 use otp_core::ReplyAnswer;
-use otp_driven::{DriveFault, Supervisor};
 use otp_file::TreeSpec;
 use otp_rules::{Answered, Effect};
 use std::alloc::Global;

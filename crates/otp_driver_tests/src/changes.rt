@@ -1,7 +1,7 @@
 //! A tree that goes on under another tree file: who keeps a process, which restarts count, and why it is refused.
 
 use crate::fixtures::{Step, open, play, play_at, same, tree_of};
-use otp_change::ChangeFault;
+use otp_base::change::ChangeFault;
 use otp_driver::{ChangeRefusal, Session, Unchanged};
 use std::alloc::Global;
 use std::process::Abort;

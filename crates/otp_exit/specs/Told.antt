@@ -23,7 +23,7 @@ is_told_first drawn (TreeRefused _) = true
 is_told_first drawn (UnknownStart _) = true
 is_told_first drawn WrongBody = true
 is_told_first drawn NotFinished = true
-is_told_first drawn (LineRefused _) = true
+is_told_first drawn (LineRefused _ _) = true
 is_told_first drawn Done = drawn
 is_told_first drawn _ = false
 
@@ -32,7 +32,7 @@ abbrev pub TellsFirst : Bool → ProgramEnd → Written → Written → Type 0
 TellsFirst drawn ending before now =
     (text : List ℕ) × ((is_told_first drawn ending ≡ false → text ≡ []) × IsTold text before now)
 
--- and with it the sentence of the ending, by why the output last failed
+-- what is told before the program ends, and the sentence of the ending, by why the output last failed
 abbrev pub Tells : Bool → Unwritten → ProgramEnd → Written → Written → Type 0
 Tells drawn why ending before now =
     (text : List ℕ) × ((is_told_first drawn ending ≡ false → text ≡ []) × IsTold (text ++ sentence_since why ending) before now)

@@ -4,17 +4,18 @@ ghost use Rattle.std.specs.Prelude.{Bool, ◌≡◌, ◌⊎◌, ◌≤◌, ◌<�
 ghost use Rattle.std.specs.IoError.{error_kind};
 ghost use Rattle.std.specs.Io.KnownBytes.{Appends};
 ghost use Rattle.otp_exit.specs.Told.{IsTold, TellsFirst, goes_on, worse};
-ghost use Rattle.otp_exit.specs.Statuses.{IsOfFile, ending_of_no_tree, ending_of_tree, line_text, log_text, names_supervisor_text, no_gap_text, no_supervisor_text, no_tree_text, not_found_text, not_replaced_text, not_written_text, refused_text, said_text, script_name, sentence_of, status_of, sentence_since};
+ghost use Rattle.otp_exit.specs.Statuses.{IsOfFile, ending_of_no_tree, ending_of_tree, all_failed_text, failed_text, found_near_text, line_text, log_text, meant_text, missed_text, names_supervisor_text, no_gap_text, no_supervisor_text, no_tree_text, not_found_text, not_replaced_text, not_written_text, refused_line_text, refused_text, said_text, script_name, sentence_of, status_of, sentence_since, too_long_text, unfound_text, asked_text};
 ghost use Rattle.otp_exit.specs.declared.ending.ProgramEnd.TheVariants.{OutOfMemory, TreeNotRead};
 
 use crate::files::{write_three, write_two};
 use itoa::Buffer;
 use otp_file::TreeFault;
-use otp_reason::Name;
+use otp_reason::{Name, Text};
 use otp_replay::LogFault;
 use otp_script::ScriptFault;
 use otp_sim::{Failed, Output, write_all};
 use otp_suggest::{GapFault, instead};
+use otp_text::LineFault;
 use otp_trial::ActionEnd;
 use std::io;
 use std::io::ErrorKind;
@@ -54,12 +55,14 @@ pub enum ProgramEnd<'a> {
     NoTree(TreeFault, &'a str),
     /// The start of a child that has no tree is no word of a worked job.
     UnknownStart(Name),
-    /// No child of the tree has this name.
-    NotFound(&'a str),
+    /// No child of the tree has this name; the child with this path may be meant.
+    NotFound(&'a str, Option<Text>),
     /// No supervisor of the tree has this name, or it has no children.
     NoSupervisor(&'a str),
     /// The child with this name is a supervisor, where a worker's name is wanted.
     NamesSupervisor(&'a str),
+    /// The stop of a tree may take longer than this word allows.
+    StopTooLong(&'a str),
     /// This word says no time between crashes.
     NotAGap(&'a str, GapFault),
     /// A line of the log of this name is refused, and nothing of it was played.
@@ -75,14 +78,16 @@ pub enum ProgramEnd<'a> {
     NotFinished,
     /// `check` found faults, and has written them.
     FaultsFound,
-    /// The line with this number, from 1, has no form that is read.
-    LineRefused(u64),
+    /// The line with this number, from 1, has no form that is read, for this reason.
+    LineRefused(u64, LineFault),
     /// The line with this number can't be read, of the script of this name, if it has one.
     ScriptRefused(Option<&'a str>, u64, ScriptFault),
-    /// The line of a script with this number could do nothing.
-    ScriptMissed(Option<&'a str>, u64, ActionEnd),
+    /// The line of a script with this number could do nothing; the child with this path may have been meant.
+    ScriptMissed(Option<&'a str>, u64, ActionEnd, Option<Text>),
     /// A script was played, and what the line with this number expected was not so, the first of such lines.
     ExpectationFailed(Option<&'a str>, u64),
+    /// Of several scripts so many failed, of so many.
+    ScriptsFailed(u64, u64),
     /// No line of a script or a log was played.
     NothingPlayed,
     /// There were 2^62 events, as many as a supervisor has in its life.
@@ -108,18 +113,19 @@ impl<'a> ProgramEnd<'a> {
             ProgramEnd::UnknownStart(_) | ProgramEnd::WrongBody => 1,
             ProgramEnd::FileNotRead | ProgramEnd::FaultsFound => 1,
             ProgramEnd::WordsRefused | ProgramEnd::NoCommand | ProgramEnd::WordNotText => 2,
-            ProgramEnd::FileAsCommand | ProgramEnd::NotFound(_) | ProgramEnd::UnknownClock => 2,
+            ProgramEnd::FileAsCommand | ProgramEnd::NotFound(..) | ProgramEnd::UnknownClock => 2,
             ProgramEnd::RunsNoTrees | ProgramEnd::Refused(_) | ProgramEnd::PageRefused(..) => 2,
             ProgramEnd::NotATime | ProgramEnd::NeedsFor | ProgramEnd::CountsTurns => 2,
             ProgramEnd::NamesSupervisor(_) | ProgramEnd::NoSupervisor(_) => 2,
             ProgramEnd::NotAGap(..) => 2,
             ProgramEnd::LogRefused(..) => 2,
-            ProgramEnd::LineRefused(_) | ProgramEnd::HistoryFull | ProgramEnd::InputFailed => 3,
+            ProgramEnd::LineRefused(..) | ProgramEnd::HistoryFull | ProgramEnd::InputFailed => 3,
             ProgramEnd::OutputFailed | ProgramEnd::OutOfMemory => 4,
             ProgramEnd::CloseMismatch | ProgramEnd::CloseMissing => 4,
             ProgramEnd::PageNotWritten(..) => 4,
             ProgramEnd::ScriptRefused(..) | ProgramEnd::ScriptMissed(..) => 5,
-            ProgramEnd::ExpectationFailed(..) => 6,
+            ProgramEnd::ExpectationFailed(..) | ProgramEnd::ScriptsFailed(..) => 6,
+            ProgramEnd::StopTooLong(_) => 6,
             ProgramEnd::NotFinished => 7,
             ProgramEnd::NothingPlayed => 8,
         }
@@ -208,7 +214,7 @@ pub fn explain<E: Output>(errors: &mut E, name: &str, ending: ProgramEnd<'_>)
         ProgramEnd::TreeRefused(_) => {
             let _told = write_three(errors, b"tip: otp check ", name.as_bytes(), b" tells why\n");
         }
-        ProgramEnd::LineRefused(_) => {
+        ProgramEnd::LineRefused(..) => {
             let _told = write_all(errors, b"tip: otp help lines says which lines there are\n");
         }
         _ => {}
@@ -279,9 +285,10 @@ fn write_sentence<E: Output>(errors: &mut E, ending: ProgramEnd<'_>) -> Result<(
         ProgramEnd::UnknownStart(name) => {
             write_three(errors, b"unknown start ", name.as_bytes(), b"\n")
         }
-        ProgramEnd::NotFound(name) => write_not_found(errors, name),
+        ProgramEnd::NotFound(name, near) => write_unfound(errors, name, near),
         ProgramEnd::NoSupervisor(name) => write_no_supervisor(errors, name),
         ProgramEnd::NamesSupervisor(name) => write_names_supervisor(errors, name),
+        ProgramEnd::StopTooLong(word) => write_too_long(errors, word),
         ProgramEnd::NotAGap(word, fault) => write_no_gap(errors, word, fault.text()),
         ProgramEnd::LogRefused(name, fault) => write_log_fault(errors, name, fault),
         ProgramEnd::PageNotWritten(name, why) => write_not_written(errors, name, why),
@@ -289,16 +296,17 @@ fn write_sentence<E: Output>(errors: &mut E, ending: ProgramEnd<'_>) -> Result<(
         ProgramEnd::CloseMismatch => write_all(errors, b"close refused: E17\n"),
         ProgramEnd::CloseMissing => write_all(errors, b"close refused: E20\n"),
         ProgramEnd::WrongBody => write_all(errors, b"tree refused: E19\n"),
-        ProgramEnd::LineRefused(line) => write_numbered(errors, b"line ", line, b" refused\n"),
+        ProgramEnd::LineRefused(line, why) => write_refused_line(errors, line, why.text()),
         ProgramEnd::ScriptRefused(script, line, fault) => {
             write_line_fault(errors, script, line, fault.text())
         }
-        ProgramEnd::ScriptMissed(script, line, taken) => {
-            write_line_fault(errors, script, line, taken.text())
+        ProgramEnd::ScriptMissed(script, line, taken, near) => {
+            write_missed(errors, script, line, taken, near)
         }
         ProgramEnd::ExpectationFailed(script, line) => {
             write_line_fault(errors, script, line, "it is not so as the script expects")
         }
+        ProgramEnd::ScriptsFailed(failed, all) => write_failed(errors, failed, all),
         ProgramEnd::NothingPlayed => write_all(
             errors,
             b"error: nothing was played: no line says what happens\n",
@@ -332,11 +340,11 @@ fn write_not_found<E: Output>(errors: &mut E, name: &str) -> Result<(), Failed>
     ensures kept { (E.seen errors.old).failures ≤ (E.seen errors.new).failures }
     ensures failed { OnErr result ((E.seen errors.old).failures < (E.seen errors.new).failures) }
 {
-    write_three(
+    write_said_of(
         errors,
-        b"error: no child is found by the name ",
         name.as_bytes(),
-        b"\n",
+        b" is no child of the tree",
+        b"; otp tree FILE shows which there are, below the root each by its path, as pool/worker",
     )
 }
 
@@ -363,6 +371,20 @@ fn write_names_supervisor<E: Output>(errors: &mut E, name: &str) -> Result<(), F
 {
     write_three(errors, b"error: ", name.as_bytes(), instead().as_bytes())?;
     write_two(errors, name.as_bytes(), b"/worker\n")
+}
+
+/// Writes that the stop of a tree may take longer than a word allows.
+fn write_too_long<E: Output>(errors: &mut E, word: &str) -> Result<(), Failed>
+    ensures ok { OnOk result (Appends (E.seen errors.old).bytes (E.seen errors.new).bytes (too_long_text word.now)) }
+    ensures kept { (E.seen errors.old).failures ≤ (E.seen errors.new).failures }
+    ensures failed { OnErr result ((E.seen errors.old).failures < (E.seen errors.new).failures) }
+{
+    write_three(
+        errors,
+        b"error: the stop may take longer than ",
+        word.as_bytes(),
+        b"\n",
+    )
 }
 
 /// Writes that a word says no time between crashes, and why.
@@ -437,6 +459,25 @@ fn write_refused<E: Output>(errors: &mut E, why: &str) -> Result<(), Failed>
     write_three(errors, b"error: ", why.as_bytes(), b"\n")
 }
 
+/// Writes how many of how many scripts failed.
+fn write_failed<E: Output>(errors: &mut E, some: u64, all: u64) -> Result<(), Failed>
+    ensures ok { OnOk result (Appends (E.seen errors.old).bytes (E.seen errors.new).bytes (failed_text some all)) }
+    ensures kept { (E.seen errors.old).failures ≤ (E.seen errors.new).failures }
+    ensures failed { OnErr result ((E.seen errors.old).failures < (E.seen errors.new).failures) }
+{
+    write_numbered(errors, b"", some, b" of ")?;
+    write_all_failed(errors, all)
+}
+
+/// Writes of how many scripts that is.
+fn write_all_failed<E: Output>(errors: &mut E, all: u64) -> Result<(), Failed>
+    ensures ok { OnOk result (Appends (E.seen errors.old).bytes (E.seen errors.new).bytes (all_failed_text all)) }
+    ensures kept { (E.seen errors.old).failures ≤ (E.seen errors.new).failures }
+    ensures failed { OnErr result ((E.seen errors.old).failures < (E.seen errors.new).failures) }
+{
+    write_numbered(errors, b"", all, b" scripts failed\n")
+}
+
 /// The name of a script; that of standard input is `-`.
 fn name_of(script: Option<&str>) -> &str
     ensures { result.now ≡ script_name script.entry }
@@ -460,6 +501,96 @@ fn write_line_fault<E: Output>(
 {
     write_all(errors, name_of(script).as_bytes())?;
     write_numbered(errors, b":", line, b": ")?;
+    write_two(errors, why.as_bytes(), b"\n")
+}
+
+/// Writes that no child has this name, and which one may be meant.
+fn write_unfound<E: Output>(errors: &mut E, name: &str, near: Option<Text>) -> Result<(), Failed>
+    ensures ok { OnOk result (Appends (E.seen errors.old).bytes (E.seen errors.new).bytes (unfound_text name.now near)) }
+    ensures kept { (E.seen errors.old).failures ≤ (E.seen errors.new).failures }
+    ensures failed { OnErr result ((E.seen errors.old).failures < (E.seen errors.new).failures) }
+{
+    match near {
+        None => write_not_found(errors, name),
+        Some(path) => write_found_near(errors, name, path.as_bytes()),
+    }
+}
+
+/// Writes that no child has this name, and that the one with this path may be meant.
+fn write_found_near<E: Output>(errors: &mut E, name: &str, path: &[u8]) -> Result<(), Failed>
+    ensures ok { OnOk result (Appends (E.seen errors.old).bytes (E.seen errors.new).bytes (found_near_text name.now path.now)) }
+    ensures kept { (E.seen errors.old).failures ≤ (E.seen errors.new).failures }
+    ensures failed { OnErr result ((E.seen errors.old).failures < (E.seen errors.new).failures) }
+{
+    write_asked_of(
+        errors,
+        name.as_bytes(),
+        b" is no child of the tree; did you mean ",
+        path,
+    )
+}
+
+/// Writes what is said of a name, and asks whether this one was meant.
+fn write_asked_of<E: Output>(
+    errors: &mut E,
+    name: &[u8],
+    said: &[u8],
+    meant: &[u8],
+) -> Result<(), Failed>
+    ensures ok { OnOk result (Appends (E.seen errors.old).bytes (E.seen errors.new).bytes (asked_text name.now said.now meant.now)) }
+    ensures kept { (E.seen errors.old).failures ≤ (E.seen errors.new).failures }
+    ensures failed { OnErr result ((E.seen errors.old).failures < (E.seen errors.new).failures) }
+{
+    write_three(errors, b"error: ", name, said)?;
+    write_two(errors, meant, b"?\n")
+}
+
+/// Writes why a line of a script could do nothing, or which child was meant.
+fn write_missed<E: Output>(
+    errors: &mut E,
+    script: Option<&str>,
+    line: u64,
+    taken: ActionEnd,
+    near: Option<Text>,
+) -> Result<(), Failed>
+    ensures ok { OnOk result (Appends (E.seen errors.old).bytes (E.seen errors.new).bytes (missed_text script.entry line taken near)) }
+    ensures kept { (E.seen errors.old).failures ≤ (E.seen errors.new).failures }
+    ensures failed { OnErr result ((E.seen errors.old).failures < (E.seen errors.new).failures) }
+{
+    match near {
+        None => write_line_fault(errors, script, line, taken.text()),
+        Some(path) => write_meant(errors, script, line, path.as_bytes()),
+    }
+}
+
+/// Writes of a line of a script that names no child which one was meant.
+fn write_meant<E: Output>(
+    errors: &mut E,
+    script: Option<&str>,
+    line: u64,
+    path: &[u8],
+) -> Result<(), Failed>
+    ensures ok { OnOk result (Appends (E.seen errors.old).bytes (E.seen errors.new).bytes (meant_text script.entry line path.now)) }
+    ensures kept { (E.seen errors.old).failures ≤ (E.seen errors.new).failures }
+    ensures failed { OnErr result ((E.seen errors.old).failures < (E.seen errors.new).failures) }
+{
+    write_all(errors, name_of(script).as_bytes())?;
+    write_numbered(
+        errors,
+        b":",
+        line,
+        b": ignored: there is no such child; did you mean ",
+    )?;
+    write_two(errors, path, b"?\n")
+}
+
+/// Writes which line of the events is refused, and why.
+fn write_refused_line<E: Output>(errors: &mut E, line: u64, why: &str) -> Result<(), Failed>
+    ensures ok { OnOk result (Appends (E.seen errors.old).bytes (E.seen errors.new).bytes (refused_line_text line why.now)) }
+    ensures kept { (E.seen errors.old).failures ≤ (E.seen errors.new).failures }
+    ensures failed { OnErr result ((E.seen errors.old).failures < (E.seen errors.new).failures) }
+{
+    write_numbered(errors, b"line ", line, b" refused: ")?;
     write_two(errors, why.as_bytes(), b"\n")
 }
 

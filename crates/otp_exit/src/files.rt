@@ -1,6 +1,6 @@
 //! The files that the program reads, and the pages that it writes.
 
-ghost use Rattle.std.specs.Prelude.{Bool, ◌≡◌, ◌≤◌, ◌<◌, ◌++◌, ◌⊎◌, true, false, None, IfErr, IfOk, OnOk, OnErr, codes, vec_len};
+ghost use Rattle.std.specs.Prelude.{Bool, ◌≡◌, ◌≤◌, ◌<◌, ◌++◌, ◌⊎◌, true, false, None, IfErr, IfOk, OnOk, OnErr, codes, length, vec_len};
 ghost use Rattle.std.specs.Io.KnownBytes.{Appends};
 ghost use Rattle.otp_exit.specs.Devices.{Files, IsApart, MayWrite};
 ghost use Rattle.otp_exit.specs.Told.{IsUnkept, IsUnreadEnd, TellsFirst};
@@ -9,7 +9,7 @@ ghost use Rattle.otp_exit.specs.declared.files.TheConstants.{LARGEST_FILE, LARGE
 ghost use Rattle.otp_exit.specs.declared.ending.ProgramEnd.TheVariants.{FileNotRead, OutOfMemory, TreeNotRead};
 
 use crate::ending::{ProgramEnd, Unwritten};
-use crate::like::{is_script, is_tree};
+use crate::like::{is_log, is_script, is_tree, is_tree_for_log};
 use otp_sim::{Failed, Output, write_all};
 use std::io;
 use std::io::ErrorKind;
@@ -36,6 +36,12 @@ const IS_A_TREE: &str = "it is a tree file where a script is wanted; otp try FIL
 
 /// Why a script is no tree file.
 const IS_A_SCRIPT: &str = "it is a script where a tree file is wanted; otp try FILE SCRIPT";
+
+/// Why a log is no tree file.
+const IS_A_LOG: &str = "it is a log where a tree file is wanted; otp replay FILE LOG";
+
+/// Why a tree file is no log.
+const IS_NO_LOG: &str = "it is a tree file where a log is wanted; otp replay FILE LOG";
 
 /// Why more of standard input is not taken whole.
 const TOO_LONG: &str = "it has more than 1048576 bytes, too many for standard input; name a file";
@@ -107,6 +113,26 @@ fn read_tree_named<F: TreeFiles>(files: &F, name: &str) -> io::Result<Vec<u8>>
 ///
 /// # Errors
 ///
+/// Why it can't be read, or that it is larger or another.
+pub fn take_script<F: TreeFiles>(files: &F, name: &str) -> Result<Vec<u8>, Unread>
+    ensures holds { IfOk result (λ file. (F.known files.now).holds name.now file.items) }
+    ensures small { IfOk result (λ file. vec_len file ≤ LARGEST_TREE) }
+{
+    let lines = match read_up_to(files, name, TOO_LARGE_A_SCRIPT) {
+        Ok(lines) => lines,
+        Err(unread) => return Err(unread),
+    };
+    if is_tree(&lines) {
+        drop(lines);
+        return Err(Unread::Since(IS_A_TREE));
+    }
+    Ok(lines)
+}
+
+/// The bytes of a script, as those of [`take_script`].
+///
+/// # Errors
+///
 /// Those of [`read_tree_file`].
 pub fn read_script<'a, F: TreeFiles, E: Output>(
     files: &F,
@@ -120,34 +146,8 @@ pub fn read_script<'a, F: TreeFiles, E: Output>(
     ensures first { IfErr result (λ ending. (drawn : Bool) → TellsFirst drawn ending (E.seen errors.old) (E.seen errors.new)) }
     ensures kept { (E.seen errors.old).failures ≤ (E.seen errors.new).failures }
 {
-    let lines = match read_told(files, name, TOO_LARGE_A_SCRIPT, errors) {
-        Ok(lines) => lines,
-        Err(ending) => return Err(ending),
-    };
-    if is_tree(&lines) {
-        drop(lines);
-        return Err(tell_not_read(errors, name, IS_A_TREE));
-    }
-    Ok(lines)
-}
-
-/// The bytes of a file, of which there are at most [`LARGEST_TREE`]. Else which file can't be read is told, and why; where it is
-/// larger, for this reason.
-fn read_told<'a, F: TreeFiles, E: Output>(
-    files: &F,
-    name: &'a str,
-    too_large: &'static str,
-    errors: &mut E,
-) -> Result<Vec<u8>, ProgramEnd<'a>>
-    ensures holds { IfOk result (λ file. (F.known files.now).holds name.now file.items) }
-    ensures small { IfOk result (λ file. vec_len file ≤ LARGEST_TREE) }
-    ensures silent { OnOk result (errors.new ≡ errors.old) }
-    ensures ending { IfErr result (λ ending. (ending ≡ FileNotRead) ⊎ (ending ≡ OutOfMemory)) }
-    ensures first { IfErr result (λ ending. (drawn : Bool) → TellsFirst drawn ending (E.seen errors.old) (E.seen errors.new)) }
-    ensures kept { (E.seen errors.old).failures ≤ (E.seen errors.new).failures }
-{
-    match read_up_to(files, name, too_large) {
-        Ok(file) => Ok(file),
+    match take_script(files, name) {
+        Ok(lines) => Ok(lines),
         Err(Unread::OutOfMemory) => Err(ProgramEnd::OutOfMemory),
         Err(Unread::Since(why)) => Err(tell_not_read(errors, name, why)),
     }
@@ -170,10 +170,14 @@ pub fn read_any_file<'a, F: TreeFiles, E: Output>(
     ensures first { IfErr result (λ ending. (drawn : Bool) → TellsFirst drawn ending (E.seen errors.old) (E.seen errors.new)) }
     ensures kept { (E.seen errors.old).failures ≤ (E.seen errors.new).failures }
 {
-    read_told(files, name, TOO_LARGE, errors)
+    match read_small(files, name) {
+        Ok(file) => Ok(file),
+        Err(Unread::OutOfMemory) => Err(ProgramEnd::OutOfMemory),
+        Err(Unread::Since(why)) => Err(tell_not_read(errors, name, why)),
+    }
 }
 
-/// The bytes of a tree file, of which there are at most [`LARGEST_TREE`]. A script is none.
+/// The bytes of a tree file, of which there are at most [`LARGEST_TREE`]. A script is none, and neither is a log.
 ///
 /// # Errors
 ///
@@ -198,6 +202,10 @@ pub fn read_tree_file<'a, F: TreeFiles, E: Output>(
     if is_script(&file) {
         drop(file);
         return Err(tell_not_read(errors, name, IS_A_SCRIPT));
+    }
+    if is_log(&file) {
+        drop(file);
+        return Err(tell_not_read(errors, name, IS_A_LOG));
     }
     Ok(file)
 }
@@ -224,12 +232,23 @@ pub fn read_log<'a, F: TreeFiles, E: Output>(
         Ok(log) => log,
         Err(error) => return Err(tell_error(errors, name, &error)),
     };
-    match why_too_long(name, log.len()) {
+    match why_no_log(name, &log) {
         None => Ok(log),
         Some(why) => {
             drop(log);
             Err(tell_not_read(errors, name, why))
         }
+    }
+}
+
+/// Why a log of this name isn't replayed, if it isn't.
+fn why_no_log(name: &str, log: &[u8]) -> Option<&'static str>
+    ensures { result ≡ None → length log.now ≤ LARGEST_FILE }
+{
+    match why_too_long(name, log.len()) {
+        Some(why) => Some(why),
+        None if is_tree_for_log(log) => Some(IS_NO_LOG),
+        None => None,
     }
 }
 

@@ -4,10 +4,11 @@
 
 pub mod ending;
 pub mod files;
+pub mod host;
 mod like;
 
 pub use ending::{ProgramEnd, Unwritten, explain, tell, write_numbered};
 pub use files::{
     LARGEST_FILE, LARGEST_TREE, TreeFiles, Unread, ask_page, read_any_file, read_large, read_log,
-    read_run_file, read_script, read_small, read_tree_file, write_page, write_three,
+    read_run_file, read_script, read_small, read_tree_file, take_script, write_page, write_three,
 };

@@ -1,4 +1,5 @@
-pub mod Lists
 pub mod ChildLemmas
+pub mod Lists
+pub mod Subs
 pub mod TreeLemmas
 pub mod WalkLemmas

@@ -24,7 +24,7 @@ AnswersAt document (Err why) = document_said document ≡ Err why
 abbrev pub SaysAt : List ℕ → Result Tree TableFault → Type 0
 SaysAt bytes answer = (document : Members) × (IsDocument bytes document × AnswersAt document answer)
 
--- the same without the table's number (own)
+-- what the members of a tree file give, without the table's number (own)
 abbrev pub Answers : Members → Result Tree TreeFault → Type 0
 Answers document (Ok tree) = document_said document ≡ Ok (tables_of tree)
 Answers document (Err fault) = (table : ℕ) × (document_said document ≡ Err (record { table = table; fault = fault }))

@@ -1,8 +1,12 @@
-pub mod Values
-pub mod Faults
-pub mod Tables
 pub mod Children
+pub mod Faults
+pub mod Files
+pub mod Nested
+pub mod Roles
+pub mod RolesFaults
+pub mod Settings
+pub mod Sizes
+pub mod Tables
 pub mod Tree
 pub mod Trees
-pub mod Sizes
-pub mod Files
+pub mod Values

@@ -98,6 +98,9 @@ pub enum Why {
     NotUtf8,
     NoServices,
     BadTime,
+    OtherText,
+    IsTree,
+    BadAutorestart,
 }
 
 impl Why {
@@ -147,6 +150,10 @@ impl Why {
             Why::NoServices => "no service stands here, so there is no child",
             Why::BadTime => "not a time; write one like 90, 1min 30s, 100ms or infinity",
             Why::NotUtf8 => "the text isn't UTF-8; save it so",
+            Why::OtherText =>
+                "neither a term of Erlang or Elixir, as {ok, {SupFlags, ChildSpecs}}, nor the file of supervisord, nor units of systemd",
+            Why::IsTree => "this is a tree file already, as import writes them",
+            Why::BadAutorestart => "not a word of autorestart: true, unexpected or false",
         }
     }
 }

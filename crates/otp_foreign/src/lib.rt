@@ -16,4 +16,4 @@ pub use names::{Id, set_apart};
 pub use number::number_in;
 pub use quoted::{write_text, write_words};
 pub use range::{Range, byte_of, is_blank, line_at, place_of, trimmed};
-pub use work::{Work, write_byte, write_number, write_place};
+pub use work::{ImportWork, write_byte, write_number, write_place};

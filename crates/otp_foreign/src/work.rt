@@ -10,7 +10,7 @@ const MOST_QUOTED: usize = 48;
 
 /// A text that is imported, and what was written for it.
 #[derive(Drop)]
-pub struct Work<'a> {
+pub struct ImportWork<'a> {
     pub alloc: Global,
     /// What the text is called, before each remark.
     name: &'a str,
@@ -63,10 +63,10 @@ fn write_quoted(bytes: &[u8], out: &mut Vec<u8>) -> Result<(), AllocError> {
     Ok(())
 }
 
-impl<'a> Work<'a> {
+impl<'a> ImportWork<'a> {
     /// Nothing was written yet.
     pub fn new(alloc: Global, name: &'a str, text: &'a [u8]) -> Self {
-        Work {
+        ImportWork {
             alloc,
             name,
             text,
@@ -79,7 +79,7 @@ impl<'a> Work<'a> {
 
     /// The tree file, the file of commands, and the remarks.
     pub fn into_parts(self) -> (Vec<u8>, Vec<u8>, Vec<u8>) {
-        let Work {
+        let ImportWork {
             tree,
             commands,
             remarks,

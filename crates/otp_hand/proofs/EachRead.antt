@@ -1,7 +1,7 @@
 -- Passes that read, one after the other.
 use Rattle.std.proofs.Common.{◌≡◌, ℕ, ◌<◌, List, [], ◌∷◌, ◌++◌, sym, ap, ◌∙◌, drop, get_or, length}
 use Rattle.std.proofs.lemmas.List.{drop_more}
-use Rattle.otp_counts.specs.Counts.{IsRead, Reading}
+use Rattle.otp_signals.specs.Counts.{IsRead, Reading}
 use Rattle.otp_rules.specs.declared.call.CountsNow.{CountsNow}
 use Rattle.otp_hand.specs.Readings.{AreRead}
 

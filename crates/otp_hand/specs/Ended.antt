@@ -21,7 +21,7 @@ end_of x = one_if (is_end x)
 abbrev pub ends_in : List Item → ℕ
 ends_in items = sum_by end_of items
 
--- the same of what was sent
+-- one where a message that was sent is an end note, and none where it isn't
 abbrev pub end_in : Message → ℕ
 end_in m = end_of m.item
 
@@ -32,7 +32,7 @@ ends_among messages = sum_by end_in messages
 abbrev pub end_share : SenderState Message → ℕ
 end_share s = ends_among (all_sent s)
 
--- the same of several senders
+-- the end notes that several senders sent, with those of the senders that they took in
 abbrev pub ends_sent : List (SenderState Message) → ℕ
 ends_sent senders = sum_by end_share senders
 

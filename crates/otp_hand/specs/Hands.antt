@@ -1,6 +1,6 @@
 -- What contracts see of a hand. (own)
 use Rattle.std.specs.Prelude.{◌≡◌, MatchOption, ℕ, Bool, true, false, List, [], ◌∷◌, ◌++◌, Option, Some, None}
-use Rattle.otp_counts.specs.Counts.{Reading}
+use Rattle.otp_signals.specs.Counts.{Reading}
 use Rattle.otp_inbox.specs.Tokens.{SenderState, TakerState}
 use Rattle.otp_job.specs.Processes.{ProcessState}
 use Rattle.otp_job.specs.declared.process.Ticket.{Ticket}
@@ -16,7 +16,7 @@ use Rattle.otp_bodies.specs.Ports.{launched, told}
 use Rattle.otp_bodies.specs.declared.port.Launched.{Launched}
 use Rattle.otp_bodies.specs.declared.port.ToldNote.{ToldNote}
 use Rattle.otp_hand.specs.declared.runner.Unsent.{Unsent}
-use Rattle.otp_waiting.specs.declared.resting.Rested.{Rested}
+use Rattle.otp_hand.specs.declared.waiting.resting.Rested.{Rested}
 
 pub record HandView (J S : Type 0) : Type 0 where
   pub scheduler : SchedulerState
@@ -71,7 +71,7 @@ module _ {J S : Type 0} where
   notes_by r = unsent_notes r.unsent
 
 -- what contracts see of a client
-pub record ClientView : Type 0 where
+pub record TreeClientView : Type 0 where
   pub owner : Holding
   pub senders : List (SenderState Message)
   -- what the first client takes the root's notes by
@@ -83,9 +83,9 @@ pub record SystemView : Type 0 where
   pub tables : ℕ
 
 -- a note of the root came, with its end if it told that, and nothing else of the client changed
-pub record HeardBy (note : Note) (w : TakerState Message) (old new : ClientView) : Type 0 where
+pub record HeardBy (note : Note) (w : TakerState Message) (old new : TreeClientView) : Type 0 where
   pub end : Option SupEnd
   pub took : new ≡ record old { waiter = Some (record w { taken = w.taken ++ message (item.Note note) end ∷ [] }) }
 
-abbrev pub Heard : Note → ClientView → ClientView → Type 0
+abbrev pub Heard : Note → TreeClientView → TreeClientView → Type 0
 Heard note old new = MatchOption old.waiter ⊥ (λ w. HeardBy note w old new)

@@ -1,8 +1,11 @@
+pub mod Arounds
+pub mod Begun
+pub mod Deadlines
+pub mod Ended
+pub mod Hands
+pub mod Readings
 pub mod Seats
 pub mod Sendings
-pub mod Hands
 pub mod Standings
-pub mod Begun
-pub mod Ended
-pub mod Readings
 pub mod Turns
+pub mod Waitings

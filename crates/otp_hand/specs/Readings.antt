@@ -1,6 +1,6 @@
 -- Passes, with which a hand reads the counts of supervisors (supervisor, count_children/1).
 use Rattle.std.specs.Prelude.{◌≡◌, ℕ, ⊤, List, [], ◌∷◌, MatchOption, slice_get, slice_set}
-use Rattle.otp_counts.specs.Counts.{IsRead, Reading}
+use Rattle.otp_signals.specs.Counts.{IsRead, Reading}
 use Rattle.otp_rules.specs.declared.call.CountsNow.{CountsNow}
 use Rattle.otp_hand.specs.Hands.{HandView}
 

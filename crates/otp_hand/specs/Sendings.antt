@@ -12,7 +12,7 @@ parts_of (Some s) = s.parts
 abbrev pub parts_at : ℕ → List (SenderState Message) → ℕ
 parts_at place senders = parts_of (slice_get senders place)
 
--- the same of several lists of senders together
+-- the parts of the right to send to one supervisor that several lists of senders have together
 abbrev pub parts_to : ℕ → List (List (SenderState Message)) → ℕ
 parts_to place all = sum_by (parts_at place) all
 
@@ -24,7 +24,7 @@ sent_in (Some s) = all_sent s
 abbrev pub sent_at : ℕ → List (SenderState Message) → List Message
 sent_at place senders = sent_in (slice_get senders place)
 
--- the same of several lists of senders together
+-- what several lists of senders together sent to this supervisor
 abbrev pub sent_to : ℕ → List (List (SenderState Message)) → List Message
 sent_to place all = together (map (sent_at place) all)
 

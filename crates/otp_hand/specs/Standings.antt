@@ -2,7 +2,7 @@
 use Rattle.std.specs.Prelude.{◌≡◌, ◌≢◌, ℕ, ◌+◌, List, Option, Some, None, map}
 use Rattle.otp_inbox.specs.Tokens.{SenderState, TakerState}
 use Rattle.otp_bodies.specs.declared.letter.Message.{Message}
-use Rattle.otp_hand.specs.Hands.{ClientView, HandView}
+use Rattle.otp_hand.specs.Hands.{TreeClientView, HandView}
 use Rattle.otp_hand.specs.Sendings.{parts_at}
 
 abbrev pub part_of : SenderState Message → ℕ
@@ -22,7 +22,7 @@ module _ {J S : Type 0} where
   abbrev pub standing_of : HandView J S → Standing
   standing_of h = record { index = h.scheduler.own.index; count = h.scheduler.count; parts = parts_in h.senders }
 
-  -- the same of each hand
+  -- where each hand stands, with its parts of the right to send
   abbrev pub standings : List (HandView J S) → List Standing
   standings hands = map standing_of hands
 
@@ -35,7 +35,7 @@ abbrev pub inbox_of : Option (TakerState Message) → Option ℕ
 inbox_of None = None
 inbox_of (Some w) = Some w.inbox
 
-abbrev pub reach_of : ClientView → Reach
+abbrev pub reach_of : TreeClientView → Reach
 reach_of c = record { waits = inbox_of c.waiter; parts = parts_in c.senders }
 
 -- so many parts were split off the sender at this place, and no other lost any

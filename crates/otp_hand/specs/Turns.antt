@@ -16,7 +16,7 @@ use Rattle.otp_reason.specs.declared.note.Started.{Started}
 use Rattle.otp_rules.specs.declared.event.Item.TheVariants as item
 use Rattle.otp_run.specs.declared.scheduler.TheConstants.{SHARE_LIMIT}
 use Rattle.otp_signals.specs.Signals.{Looked}
-use Rattle.otp_waiting.specs.declared.resting.Rested.{Rested}
+use Rattle.otp_hand.specs.declared.waiting.resting.Rested.{Rested}
 use Rattle.otp_signals.specs.declared.signal.Signal.{Signal}
 use Rattle.otp_signals.specs.declared.signal.Signal.TheVariants as signal
 use Rattle.otp_hand.specs.Hands.{RunnerView}

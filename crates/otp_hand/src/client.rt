@@ -11,9 +11,9 @@ ghost use Rattle.otp_hand.specs.Readings.{AreRead};
 
 use crate::reading::read_each;
 use crate::senders::Senders;
-use otp_counts::CountsPass;
 use otp_inbox::{InboxNaming, Taker};
 use otp_rules::CountsNow;
+use otp_signals::counts::CountsPass;
 use otp_signals::{Owner, Signal, Words, WordsNaming};
 use otp_sup::{Letter, Message};
 use std::marker::Model;
@@ -27,7 +27,7 @@ pub const ROOT_SLOT: usize = 0;
 /// What a user of the tree needs: numbers for calls, a sender to each supervisor, and the first client's right to stop
 /// the root. It sends no note of an end.
 #[derive(Drop)]
-pub struct Client<N: WordsNaming + InboxNaming, B: Drop> {
+pub struct TreeClient<N: WordsNaming + InboxNaming, B: Drop> {
     pub owner: Owner<N>,
     pub senders: Senders<N, B>,
     /// What the first client takes the root's notes by. It alone can stop the root.
@@ -36,22 +36,22 @@ pub struct Client<N: WordsNaming + InboxNaming, B: Drop> {
     pub heard: u64,
 }
 
-impl<N: WordsNaming + InboxNaming, B: Drop> Model for Client<N, B> {
+impl<N: WordsNaming + InboxNaming, B: Drop> Model for TreeClient<N, B> {
     ghost use Rattle.std.specs.Prelude.{◌≡◌, Contains, IfSome};
     ghost use Rattle.otp_hand.specs.declared.client.TheConstants.{ROOT_SLOT};
     ghost use Rattle.otp_inbox.specs.Tokens.{no_shares};
     ghost use Rattle.otp_hand.specs.Begun.{starts_credited};
     ghost use Rattle.otp_hand.specs.Ended.{CountsHeard, ends_sent};
-    ghost use Rattle.otp_hand.specs.Hands.{ClientView};
+    ghost use Rattle.otp_hand.specs.Hands.{TreeClientView};
 
-    ghost Value = { ClientView };
+    ghost Value = { TreeClientView };
 
     ghost view = { λ c. record { owner = c.owner; senders = c.senders; waiter = c.waiter } };
 
     ghost invariant = { λ c. IfSome c.waiter (λ _. Contains c.owner.slots ROOT_SLOT) × (starts_credited c.senders ≡ 0) × IfSome c.waiter (λ w. w.given ≡ no_shares) × (ends_sent c.senders ≡ 0) × IfSome c.waiter (CountsHeard c.heard) };
 }
 
-impl<N: WordsNaming + InboxNaming, B: Drop> Client<N, B> {
+impl<N: WordsNaming + InboxNaming, B: Drop> TreeClient<N, B> {
     /// The first client, which can stop the root, and takes the root's notes by this.
     pub fn first(
         owner: Owner<N>,
@@ -65,7 +65,7 @@ impl<N: WordsNaming + InboxNaming, B: Drop> Client<N, B> {
         requires taken { waiter.taken ≡ [] }
         ensures { result ≡ record { owner = owner; senders = senders; waiter = Some waiter } }
     {
-        Client {
+        TreeClient {
             owner,
             senders,
             waiter: Some(waiter),

@@ -2,16 +2,16 @@
 ghost use Rattle.std.specs.Prelude.{◌≡◌, ◌↔◌, ◌<◌, None, Some, is_some, true, IfNone, IfSome, IsTrue, length};
 ghost use Rattle.otp_hand.specs.Readings.{HasRead};
 ghost use Rattle.otp_hand.specs.Standings.{standing_of};
-ghost use Rattle.otp_waiting.specs.Deadlines.{IsDue, least_due};
+ghost use Rattle.otp_hand.specs.Deadlines.{IsDue, least_due};
 
 use crate::naming::TreeNaming;
 use crate::reading::read_at;
 use crate::runner::Runner;
 use crate::senders::Senders;
-use otp_counts::CountsPass;
 use otp_job::Body;
+use otp_job::wake::WakeWords;
 use otp_rules::CountsNow;
-use otp_wake::Post;
+use otp_signals::counts::CountsPass;
 use std::alloc::AllocError;
 use std::marker::Model;
 use std::sync::Arc;
@@ -127,7 +127,7 @@ impl<N: TreeNaming, J: Drop, S: Drop> Hand<N, J, S> {
     /// # Errors
     ///
     /// Where there are as many ways to the post as a machine word counts.
-    pub fn open_post(&mut self, post: &Arc<Post>) -> Result<(), AllocError>
+    pub fn open_post(&mut self, post: &Arc<WakeWords>) -> Result<(), AllocError>
         ensures unsent { self.new.unsent ≡ self.old.unsent }
         ensures passes { self.new.passes ≡ self.old.passes }
         ensures standing { standing_of self.new ≡ standing_of self.old }

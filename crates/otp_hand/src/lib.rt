@@ -1,10 +1,10 @@
 //! What each side of a tree holds while it runs: each thread that serves it a [`Hand`], whoever calls its supervisors a
-//! [`Client`], and all of them what is [`Shared`].
+//! [`TreeClient`], and all of them what is [`Shared`].
 //!
 //! - `senders.rt`: a sender to each supervisor, of which each hand and each client has a list.
 //! - `client.rt`: numbers for calls, and the right to stop the root.
-//! - `hand.rt`: what one thread has; `runner.rt`: what it runs processes with. What waits in it, and what it knows of the deques, is
-//!   `otp_waiting`'s.
+//! - `hand.rt`: what one thread has; `runner.rt`: what it runs processes with. What waits in it, and what it knows of the deques,
+//!   stands in `waiting`.
 //! - `reading.rt`: counts of supervisors, read without their locks.
 //! - `shared.rt`: the signal words and the supervisors themselves.
 //!
@@ -21,8 +21,9 @@ pub mod reading;
 pub mod runner;
 pub mod senders;
 pub mod shared;
+pub mod waiting;
 
-pub use client::{Client, ROOT_NUMBER, ROOT_SLOT};
+pub use client::{ROOT_NUMBER, ROOT_SLOT, TreeClient};
 pub use hand::Hand;
 pub use naming::TreeNaming;
 pub use runner::{Runner, Unsent};

@@ -2,8 +2,8 @@
 ghost use Rattle.std.specs.Prelude.{◌≡◌, ◌<◌, ◌≤◌, [], length, vec_capacity};
 ghost use Rattle.otp_hand.specs.Readings.{AreRead, IsReadAt};
 
-use otp_counts::CountsPass;
 use otp_rules::CountsNow;
+use otp_signals::counts::CountsPass;
 
 /// Reads by the pass at this place.
 pub fn read_at(passes: &mut [CountsPass], place: usize) -> CountsNow

@@ -9,7 +9,8 @@ ghost use Rattle.otp_hand.specs.Hands.{one_if};
 ghost use Rattle.otp_hand.specs.Turns.{IsTold, Rests, WorkedAsTold, nested_by, table_above, table_nested};
 
 use crate::places::put_into;
-use otp_bridge::Subsystem;
+use crate::waiting::{Around, Rested, Resting, Waiting};
+use otp_job::bridge::Subsystem;
 use otp_job::{After, Body, EndNote, Job, Process, Spent, TableNo, Ticket, one_turn_at};
 use otp_reason::Note;
 use otp_rules::SupEnd;
@@ -17,7 +18,6 @@ use otp_run::{RunNaming, SHARE_LIMIT, Scheduler};
 use otp_signals::{Signal, Viewer, Words, WordsNaming};
 use otp_sup::{Letter, NewProcess, Port, Sup, evidence_of};
 use otp_tally::Tally;
-use otp_waiting::{Around, Rested, Resting, Waiting};
 use std::alloc::Global;
 use std::marker::Model;
 
@@ -33,7 +33,7 @@ pub struct Unsent<J: Drop, S: Drop> {
 ///
 /// It has out the process whose turn it is; where that can't be given back for want of memory it stays here and comes
 /// first. So does a note that was refused. Out are also those of its processes that wait: jobs until they are told something
-/// or woken ([`Turn::Wait`](otp_job::Turn::Wait)), and supervisors that found nothing to do until something comes for them. They
+/// or woken ([`Turn::Wait`](otp_job::Turn::Wait)), and supervisors with nothing left to do until something comes for them. They
 /// take no turns, and no other hand gets them.
 #[derive(Drop)]
 pub struct Runner<N: WordsNaming + RunNaming, J: Drop, S: Drop> {
@@ -355,7 +355,7 @@ impl<N: WordsNaming + RunNaming, J: Drop, S: Drop> Runner<N, J, S> {
     }
 
     /// Gives its turn to the first process of its own deque, or else to the next that stands aside.
-    fn take_own(&mut self)
+    pub fn take_own(&mut self)
         requires { self.old.turning ≡ None }
         ensures unsent { self.new.unsent ≡ self.old.unsent }
         ensures begun { NoneBegan self.old.scheduler self.new.scheduler }
@@ -536,21 +536,21 @@ impl<N: WordsNaming + RunNaming, J: Drop, S: Drop> Runner<N, J, S> {
 
 impl<N: WordsNaming + RunNaming, J: Job, S: Subsystem> Runner<N, J, S> {
     /// A turn of the worker or the bridge that it has out ([`one_turn_at`]), at this reading of the clock. It is told what its
-    /// supervisor has posted for it.
-    pub fn work_as_told(&mut self, words: &Words<N>, reading: u64)
+    /// supervisor has posted for it. The letter in which it tells its supervisor something comes out, if there is one.
+    pub fn work_as_told(&mut self, words: &Words<N>, reading: u64) -> Option<Unsent<J, S>>
         requires { self.old.unsent ≡ None }
         ensures begun { NoneBegan self.old.scheduler self.new.scheduler }
         // It ended exactly where its end note is to be sent.
-        ensures ended { self.new.scheduler.ended ≡ self.old.scheduler.ended + ends_held self.new.unsent }
-        ensures turn { IfSome self.old.turning (λ p. WorkedAsTold J.started S.inited J.is_trapping J.turned S.polled S.terminated words.now reading p self.old self.new) }
+        ensures ended { self.new.scheduler.ended ≡ self.old.scheduler.ended + ends_held result }
+        ensures unsent { self.new.unsent ≡ None }
+        // With what is to be sent now.
+        ensures turn { IfSome self.old.turning (λ p. WorkedAsTold J.started S.inited J.is_trapping J.turned S.polled S.terminated words.now reading p self.old (record self.new { unsent = result })) }
     {
         let told = self.look(words);
-        let Some(process) = self.turning.take() else {
-            return;
-        };
+        let process = self.turning.take()?;
         if !process.is_runnable() || self.scheduler.share().ended >= SHARE_LIMIT {
             put_into(&mut self.turning, Some(process));
-            return;
+            return None;
         }
         let ticket = process.ticket();
         // The turn that it has now is the one for which it was woken, if it was.
@@ -559,20 +559,24 @@ impl<N: WordsNaming + RunNaming, J: Job, S: Subsystem> Runner<N, J, S> {
         }
         let after = one_turn_at(process, told, &self.around.site(reading));
         match after {
-            After::Again(process) => put_into(&mut self.turning, Some(process)),
+            After::Again(process) => {
+                put_into(&mut self.turning, Some(process));
+                None
+            }
             After::Waits(process) => {
                 let hand = self.scheduler.index();
                 let back = keep_waiting(&mut self.waiting, &self.around, hand, process);
                 put_into(&mut self.turning, back);
+                None
             }
             After::Begun(process, note) => {
                 put_into(&mut self.turning, Some(process));
-                put_into(&mut self.unsent, Some(unsent_to(ticket, note, None)));
+                Some(unsent_to(ticket, note, None))
             }
             After::Done(end, spent) => {
                 self.scheduler.finish(spent);
                 let EndNote { note, body } = end;
-                put_into(&mut self.unsent, Some(unsent_to(ticket, note, Some(body))));
+                Some(unsent_to(ticket, note, Some(body)))
             }
         }
     }

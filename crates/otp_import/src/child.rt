@@ -1,9 +1,9 @@
 //! A child specification.
 
+use crate::term::{TermKind, Terms};
 use crate::values::{put_one_of, put_within};
-use otp_foreign::{Id, ImportFault, Why, Work, number_in, set_apart};
+use otp_foreign::{Id, ImportFault, ImportWork, Why, number_in, set_apart};
 use otp_spec::MAX_SHUTDOWN;
-use otp_terms::{Kind, Terms};
 
 /// The most modules that a child has.
 const MOST_MODULES: usize = 4;
@@ -38,7 +38,7 @@ fn nothing_said() -> Said {
 
 /// Takes what is said of a child at a key of a map.
 fn take_said(
-    work: &mut Work<'_>,
+    work: &mut ImportWork<'_>,
     terms: &Terms,
     key: usize,
     value: usize,
@@ -65,7 +65,7 @@ fn take_said(
 }
 
 /// The child that a map says.
-fn said_by_key(work: &mut Work<'_>, terms: &Terms, at: usize) -> Result<Said, ImportFault> {
+fn said_by_key(work: &mut ImportWork<'_>, terms: &Terms, at: usize) -> Result<Said, ImportFault> {
     let mut said = nothing_said();
     let entries = terms.entries(work.alloc, at)?;
     for entry in entries.as_slice() {
@@ -75,7 +75,11 @@ fn said_by_key(work: &mut Work<'_>, terms: &Terms, at: usize) -> Result<Said, Im
 }
 
 /// The child that an answer of `which_children` tells of: of how it is restarted nothing is known.
-fn said_by_process(work: &mut Work<'_>, terms: &Terms, at: usize) -> Result<Said, ImportFault> {
+fn said_by_process(
+    work: &mut ImportWork<'_>,
+    terms: &Terms,
+    at: usize,
+) -> Result<Said, ImportFault> {
     work.remark(
         terms.start(at),
         "",
@@ -100,12 +104,12 @@ fn is_module(text: &[u8], terms: &Terms, at: Option<usize>) -> bool {
         Some(byte) => byte.is_ascii_uppercase() || *byte == b':',
         None => false,
     };
-    is_written && terms.is_kind(at, Kind::Atom)
+    is_written && terms.is_kind(at, TermKind::Atom)
 }
 
 /// The child that Elixir asks a module for, whose answer isn't known.
 fn said_by_module(
-    work: &mut Work<'_>,
+    work: &mut ImportWork<'_>,
     terms: &Terms,
     at: usize,
     module: Option<usize>,
@@ -127,7 +131,7 @@ fn said_by_module(
 }
 
 /// The child that a tuple says, by how many parts it has.
-fn said_by_tuple(work: &mut Work<'_>, terms: &Terms, at: usize) -> Result<Said, ImportFault> {
+fn said_by_tuple(work: &mut ImportWork<'_>, terms: &Terms, at: usize) -> Result<Said, ImportFault> {
     match terms.count(at) {
         6 => Ok(Said {
             id: terms.nth(at, 0),
@@ -146,7 +150,7 @@ fn said_by_tuple(work: &mut Work<'_>, terms: &Terms, at: usize) -> Result<Said, 
 
 /// The part behind `ok`, or the part itself.
 pub(crate) fn behind_ok(text: &[u8], terms: &Terms, at: usize) -> usize {
-    if !terms.is_kind(at, Kind::Tuple) || terms.count(at) != 2 {
+    if !terms.is_kind(at, TermKind::Tuple) || terms.count(at) != 2 {
         return at;
     }
     match terms.nth(at, 0) {
@@ -156,17 +160,16 @@ pub(crate) fn behind_ok(text: &[u8], terms: &Terms, at: usize) -> usize {
 }
 
 /// The child that a part says.
-fn said_of(work: &mut Work<'_>, terms: &Terms, at: usize) -> Result<Said, ImportFault> {
+fn said_of(work: &mut ImportWork<'_>, terms: &Terms, at: usize) -> Result<Said, ImportFault> {
     let at = behind_ok(work.text, terms, at);
     match terms.part(at) {
         Some(part) => match part.kind {
-            Kind::Map => said_by_key(work, terms, at),
-            Kind::Tuple => said_by_tuple(work, terms, at),
-            Kind::Atom => said_by_module(work, terms, at, Some(at)),
-            Kind::List | Kind::Text | Kind::Number | Kind::Opaque => Err(ImportFault::At(
-                part.start,
-                Why::NoChild,
-            )),
+            TermKind::Map => said_by_key(work, terms, at),
+            TermKind::Tuple => said_by_tuple(work, terms, at),
+            TermKind::Atom => said_by_module(work, terms, at, Some(at)),
+            TermKind::List | TermKind::Text | TermKind::Number | TermKind::Opaque => Err(
+                ImportFault::At(part.start, Why::NoChild),
+            ),
         },
         None => Err(ImportFault::At(0, Why::NoChild)),
     }
@@ -174,7 +177,7 @@ fn said_of(work: &mut Work<'_>, terms: &Terms, at: usize) -> Result<Said, Import
 
 /// Writes the id of a child, which no sibling has.
 fn put_id(
-    work: &mut Work<'_>,
+    work: &mut ImportWork<'_>,
     terms: &Terms,
     at: usize,
     taken: &mut Vec<Id>,
@@ -196,7 +199,7 @@ fn put_id(
 
 /// The module of a start function.
 fn module_of(terms: &Terms, at: usize) -> Result<usize, ImportFault> {
-    let module = if terms.is_kind(at, Kind::Tuple) && terms.count(at) == 3 {
+    let module = if terms.is_kind(at, TermKind::Tuple) && terms.count(at) == 3 {
         terms.nth(at, 0)
     } else {
         Some(at)
@@ -204,27 +207,32 @@ fn module_of(terms: &Terms, at: usize) -> Result<usize, ImportFault> {
     let Some(module) = module else {
         return Err(ImportFault::At(terms.start(at), Why::BadStart));
     };
-    if terms.is_kind(module, Kind::Tuple) {
+    if terms.is_kind(module, TermKind::Tuple) {
         return Err(ImportFault::At(terms.start(at), Why::BadStart));
     }
     Ok(module)
 }
 
 /// Writes the module of a child's start function.
-fn put_start(work: &mut Work<'_>, terms: &Terms, at: usize) -> Result<(), ImportFault> {
+fn put_start(work: &mut ImportWork<'_>, terms: &Terms, at: usize) -> Result<(), ImportFault> {
     let module = module_of(terms, at)?;
     put_module(work, terms, module, "start")
 }
 
 /// Writes a module's name at a key.
-fn put_module(work: &mut Work<'_>, terms: &Terms, at: usize, key: &str) -> Result<(), ImportFault> {
+fn put_module(
+    work: &mut ImportWork<'_>,
+    terms: &Terms,
+    at: usize,
+    key: &str,
+) -> Result<(), ImportFault> {
     let id = named_module(work, terms, at)?;
     work.put_word(key, id.as_slice())?;
     Ok(())
 }
 
 /// The name of a module, with a remark where it is another one.
-fn named_module(work: &mut Work<'_>, terms: &Terms, at: usize) -> Result<Id, ImportFault> {
+fn named_module(work: &mut ImportWork<'_>, terms: &Terms, at: usize) -> Result<Id, ImportFault> {
     let read = terms.bytes(work.text, at);
     let id = Id::of(read);
     if id.as_slice() != read {
@@ -241,7 +249,7 @@ fn named_module(work: &mut Work<'_>, terms: &Terms, at: usize) -> Result<Id, Imp
 
 /// Writes how long a child may take to end. One with a tree is waited for.
 fn put_shutdown(
-    work: &mut Work<'_>,
+    work: &mut ImportWork<'_>,
     terms: &Terms,
     at: usize,
     has_tree: bool,
@@ -274,7 +282,7 @@ fn put_shutdown(
 
 /// Writes the type of a child; one with a tree is a supervisor.
 fn put_type(
-    work: &mut Work<'_>,
+    work: &mut ImportWork<'_>,
     terms: &Terms,
     at: usize,
     has_tree: bool,
@@ -307,7 +315,7 @@ fn put_type(
 }
 
 /// Writes the modules of a list, as many as a child has.
-fn put_modules(work: &mut Work<'_>, terms: &Terms, at: usize) -> Result<(), ImportFault> {
+fn put_modules(work: &mut ImportWork<'_>, terms: &Terms, at: usize) -> Result<(), ImportFault> {
     work.tree.extend_from_slice(b"modules = [")?;
     let mut count: usize = 0;
     for number in at.saturating_add(1)..terms.last(at) {
@@ -347,7 +355,7 @@ fn are_default(text: &[u8], terms: &Terms, at: usize, start: usize) -> bool {
 
 /// Writes the modules of a child, unless they are those that it has where none are said.
 fn put_said_modules(
-    work: &mut Work<'_>,
+    work: &mut ImportWork<'_>,
     terms: &Terms,
     at: usize,
     start: usize,
@@ -356,7 +364,7 @@ fn put_said_modules(
         work.put_word("modules", b"dynamic")?;
         return Ok(());
     }
-    if !terms.is_kind(at, Kind::List) {
+    if !terms.is_kind(at, TermKind::List) {
         return Err(ImportFault::At(terms.start(at), Why::BadModules));
     }
     if are_default(work.text, terms, at, start) {
@@ -366,7 +374,7 @@ fn put_said_modules(
 }
 
 /// Writes what a child is restarted by.
-fn put_restart(work: &mut Work<'_>, terms: &Terms, said: &Said) -> Result<(), ImportFault> {
+fn put_restart(work: &mut ImportWork<'_>, terms: &Terms, said: &Said) -> Result<(), ImportFault> {
     if let Some(at) = said.restart {
         let words = ["permanent", "transient", "temporary"];
         put_one_of(work, terms, "restart", at, &words, Why::BadRestart)?;
@@ -384,7 +392,7 @@ fn put_restart(work: &mut Work<'_>, terms: &Terms, said: &Said) -> Result<(), Im
 
 /// Writes the rest of a child whose start is known.
 fn put_rest(
-    work: &mut Work<'_>,
+    work: &mut ImportWork<'_>,
     terms: &Terms,
     said: &Said,
     start: usize,
@@ -405,7 +413,7 @@ fn put_rest(
 
 /// Leaves out the tree of a child from which all are made.
 fn without_tree(
-    work: &mut Work<'_>,
+    work: &mut ImportWork<'_>,
     terms: &Terms,
     said: Said,
     is_simple: bool,
@@ -427,7 +435,7 @@ fn without_tree(
 
 /// Writes the child that a part says, below this path, and gives what it supervises.
 pub(crate) fn put_child(
-    work: &mut Work<'_>,
+    work: &mut ImportWork<'_>,
     terms: &Terms,
     at: usize,
     path: &[u8],

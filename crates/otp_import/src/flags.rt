@@ -1,9 +1,9 @@
 //! The flags of a supervisor.
 
+use crate::term::{TermKind, Terms};
 use crate::values::{put_number_of, put_one_of};
-use otp_foreign::{ImportFault, Why, Work};
+use otp_foreign::{ImportFault, ImportWork, Why};
 use otp_spec::{MAX_INTENSITY, MAX_PERIOD};
-use otp_terms::{Kind, Terms};
 
 /// The parts of a term that say flags, where they are said.
 #[derive(Clone, Copy, Debug)]
@@ -26,7 +26,7 @@ fn no_flags() -> Flags {
 
 /// Takes a flag by its key. Elixir has words of its own for two.
 fn take_flag(
-    work: &mut Work<'_>,
+    work: &mut ImportWork<'_>,
     terms: &Terms,
     key: usize,
     value: usize,
@@ -49,7 +49,7 @@ fn take_flag(
 }
 
 /// The flags of a map, or of a list of keys and values.
-fn flags_by_key(work: &mut Work<'_>, terms: &Terms, at: usize) -> Result<Flags, ImportFault> {
+fn flags_by_key(work: &mut ImportWork<'_>, terms: &Terms, at: usize) -> Result<Flags, ImportFault> {
     let mut flags = no_flags();
     let entries = terms.entries(work.alloc, at)?;
     for entry in entries.as_slice() {
@@ -59,8 +59,8 @@ fn flags_by_key(work: &mut Work<'_>, terms: &Terms, at: usize) -> Result<Flags, 
 }
 
 /// The flags that a part says.
-fn flags_of(work: &mut Work<'_>, terms: &Terms, at: usize) -> Result<Flags, ImportFault> {
-    let is_tuple = terms.is_kind(at, Kind::Tuple);
+fn flags_of(work: &mut ImportWork<'_>, terms: &Terms, at: usize) -> Result<Flags, ImportFault> {
+    let is_tuple = terms.is_kind(at, TermKind::Tuple);
     if is_tuple && terms.count(at) == 3 {
         return Ok(Flags {
             strategy: terms.nth(at, 0),
@@ -69,7 +69,7 @@ fn flags_of(work: &mut Work<'_>, terms: &Terms, at: usize) -> Result<Flags, Impo
             auto_shutdown: None,
         });
     }
-    if is_tuple || !(terms.is_kind(at, Kind::Map) || terms.is_kind(at, Kind::List)) {
+    if is_tuple || !(terms.is_kind(at, TermKind::Map) || terms.is_kind(at, TermKind::List)) {
         return Err(ImportFault::At(terms.start(at), Why::BadFlags));
     }
     flags_by_key(work, terms, at)
@@ -77,7 +77,7 @@ fn flags_of(work: &mut Work<'_>, terms: &Terms, at: usize) -> Result<Flags, Impo
 
 /// Writes the flags of a supervisor, and says whether all its children are made from one.
 pub(crate) fn put_flags(
-    work: &mut Work<'_>,
+    work: &mut ImportWork<'_>,
     terms: &Terms,
     at: usize,
 ) -> Result<bool, ImportFault> {

@@ -4,13 +4,14 @@ ghost use Rattle.std.specs.Prelude.{◌≤◌, IfErr, IfOk, length};
 ghost use Rattle.otp_foreign.specs.Faults.{place_of};
 ghost use Rattle.otp_import.specs.Trees.{HasTree};
 
+use crate::like::is_tree;
 use crate::supervisor::put_supervisor;
+use crate::supervisord::{is_ini, put_programs};
+use crate::term::read_term;
+use crate::units::{is_units, put_units};
 use otp_file::{MAX_DEPTH, TreeFault, read_tree};
-use otp_foreign::{ImportFault, Spot, Work, write_place};
+use otp_foreign::{ImportFault, ImportWork, Spot, Why, write_place};
 use otp_spec::SpecFault;
-use otp_supervisord::{is_ini, put_programs};
-use otp_terms::read_term;
-use otp_units::{is_units, put_units};
 use std::alloc::{AllocError, Global};
 
 /// What a text says.
@@ -40,8 +41,26 @@ fn refusal(fault: &TreeFault) -> &'static str {
     }
 }
 
+/// A text without the mark of its encoding, which some editors put at its beginning.
+fn behind_mark(text: &[u8]) -> &[u8]
+    ensures { length result.now ≤ length text.now }
+{
+    text.strip_prefix(b"\xef\xbb\xbf").unwrap_or(text)
+}
+
+/// Whether a text begins with the mark of UTF-16.
+fn is_wide(text: &[u8]) -> bool {
+    matches!(text, [0xff, 0xfe, ..] | [0xfe, 0xff, ..])
+}
+
 /// Writes what a text says.
-fn put_all(work: &mut Work<'_>) -> Result<(), ImportFault> {
+fn put_all(work: &mut ImportWork<'_>) -> Result<(), ImportFault> {
+    if is_wide(work.text) {
+        return Err(ImportFault::At(0, Why::NotUtf8));
+    }
+    if is_tree(work.text) {
+        return Err(ImportFault::At(0, Why::IsTree));
+    }
     if is_units(work.text) {
         return put_units(work);
     }
@@ -70,7 +89,7 @@ fn read_back(alloc: Global, import: Import) -> Result<Import, ImportFault>
 fn import_whole(alloc: Global, name: &str, text: &[u8]) -> Result<Import, ImportFault>
     ensures { IfOk result (λ import. HasTree import.tree.items) }
 {
-    let mut work = Work::new(alloc, name, text);
+    let mut work = ImportWork::new(alloc, name, text);
     let written = put_all(&mut work);
     let (tree, commands, remarks) = work.into_parts();
     let import = Import {
@@ -94,7 +113,7 @@ pub fn import_text(alloc: Global, name: &str, text: &[u8]) -> Result<Import, Imp
     ensures tree { IfOk result (λ import. HasTree import.tree.items) }
     ensures inside { IfErr result (λ fault. place_of fault ≤ length text.now) }
 {
-    match import_whole(alloc, name, text) {
+    match import_whole(alloc, name, behind_mark(text)) {
         Ok(import) => Ok(import),
         Err(fault) => Err(fault.within(text.len())),
     }
@@ -111,7 +130,7 @@ pub fn write_fault(
     fault: &ImportFault,
     out: &mut Vec<u8>,
 ) -> Result<(), AllocError> {
-    let spot = Spot::FIRST.moved_to(text, fault.place());
+    let spot = Spot::FIRST.moved_to(behind_mark(text), fault.place());
     write_place(name, spot, out)?;
     out.extend_from_slice(fault.text().as_bytes())?;
     out.extend_from_slice(b"\n")

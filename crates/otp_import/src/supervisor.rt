@@ -2,9 +2,9 @@
 
 use crate::child::{behind_ok, put_child};
 use crate::flags::put_flags;
-use otp_foreign::{ImportFault, Why, Work};
+use crate::term::{TermKind, Terms};
+use otp_foreign::{ImportFault, ImportWork, Why};
 use otp_spec::MAX_CHILDREN;
-use otp_terms::{Kind, Terms};
 use std::alloc::{AllocError, Global};
 
 /// The parts of a term that say a supervisor.
@@ -17,19 +17,19 @@ struct Supervisor {
 /// The supervisor that a part says: a pair of flags and a list, as `init/1` answers it, or a list of children alone.
 fn supervisor_at(text: &[u8], terms: &Terms, at: usize) -> Result<Supervisor, ImportFault> {
     let at = behind_ok(text, terms, at);
-    if terms.is_kind(at, Kind::List) {
+    if terms.is_kind(at, TermKind::List) {
         return Ok(Supervisor {
             flags: None,
             children: at,
         });
     }
-    if !terms.is_kind(at, Kind::Tuple) || terms.count(at) != 2 {
+    if !terms.is_kind(at, TermKind::Tuple) || terms.count(at) != 2 {
         return Err(ImportFault::At(terms.start(at), Why::NoSupervisor));
     }
     let Some(children) = terms.nth(at, 1) else {
         return Err(ImportFault::At(terms.start(at), Why::NoSupervisor));
     };
-    if !terms.is_kind(children, Kind::List) {
+    if !terms.is_kind(children, TermKind::List) {
         return Err(ImportFault::At(terms.start(children), Why::BadChildren));
     }
     Ok(Supervisor {
@@ -40,7 +40,7 @@ fn supervisor_at(text: &[u8], terms: &Terms, at: usize) -> Result<Supervisor, Im
 
 /// Writes the flags of a supervisor, and says whether all its children are made from one.
 fn put_own(
-    work: &mut Work<'_>,
+    work: &mut ImportWork<'_>,
     terms: &Terms,
     supervisor: Supervisor,
 ) -> Result<bool, ImportFault> {
@@ -67,7 +67,7 @@ fn path_below(alloc: Global, path: &[u8]) -> Result<Vec<u8>, AllocError> {
 
 /// Writes the supervisor that a part says, whose keys have this path before them, and all below it, to so many levels.
 pub(crate) fn put_supervisor(
-    work: &mut Work<'_>,
+    work: &mut ImportWork<'_>,
     terms: &Terms,
     at: usize,
     path: &[u8],

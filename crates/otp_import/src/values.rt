@@ -1,7 +1,7 @@
 //! Values of flags and of child specifications.
 
-use otp_foreign::{ImportFault, Why, Work, number_in};
-use otp_terms::{Kind, Terms};
+use crate::term::{TermKind, Terms};
+use otp_foreign::{ImportFault, ImportWork, Why, number_in};
 
 /// Whether one of these words is this one.
 fn is_one_of(word: &[u8], words: &[&str]) -> bool {
@@ -15,7 +15,7 @@ fn is_one_of(word: &[u8], words: &[&str]) -> bool {
 
 /// Writes an atom that is one of these words.
 pub(crate) fn put_one_of(
-    work: &mut Work<'_>,
+    work: &mut ImportWork<'_>,
     terms: &Terms,
     key: &str,
     at: usize,
@@ -23,7 +23,7 @@ pub(crate) fn put_one_of(
     why: Why,
 ) -> Result<(), ImportFault> {
     let word = terms.bytes(work.text, at);
-    if !terms.is_kind(at, Kind::Atom) || !is_one_of(word, words) {
+    if !terms.is_kind(at, TermKind::Atom) || !is_one_of(word, words) {
         return Err(ImportFault::At(terms.start(at), why));
     }
     work.put_word(key, word)?;
@@ -32,7 +32,7 @@ pub(crate) fn put_one_of(
 
 /// Writes a number between these limits; of another one the nearest limit, with a remark.
 pub(crate) fn put_number_of(
-    work: &mut Work<'_>,
+    work: &mut ImportWork<'_>,
     terms: &Terms,
     key: &str,
     at: usize,
@@ -49,7 +49,7 @@ pub(crate) fn put_number_of(
 
 /// Writes a number that was read at this place.
 pub(crate) fn put_within(
-    work: &mut Work<'_>,
+    work: &mut ImportWork<'_>,
     key: &str,
     place: usize,
     number: u64,

@@ -8,8 +8,8 @@ ghost use Rattle.otp_inbox.specs.Tokens.{all_parts, count_limit, no_shares, plus
 use crate::mail::Mail;
 use crate::naming::InboxNaming;
 use crate::rule::{
-    ALL_PARTS, COUNT_LIMIT, Credit, Credited, Cut, Drained, Held, Joined, Looked, Pass, Piece,
-    Queue, Sent, Spare, Taken,
+    ALL_PARTS, COUNT_LIMIT, Credit, Credited, Cut, Drained, Held, Joined, Looked, Pass, Queue,
+    SenderPiece, Sent, Spare, Taken,
 };
 use crate::sender::Sender;
 use crate::taker::Taker;
@@ -109,7 +109,7 @@ impl<N: InboxNaming, P, T: Mail<P>> Inbox<N, P, T> {
         }
     }
 
-    fn cut_off<C: Piece>(&self, pass: &mut Pass<P, T>, _parts: u64) -> Pass<P, T>
+    fn cut_off<C: SenderPiece>(&self, pass: &mut Pass<P, T>, _parts: u64) -> Pass<P, T>
         requires belongs { IsSegPassOf (N.inbox self.now) pass.old }
         requires has_parts { C.parts ≤ pass.old.me.view.client.parts }
         requires keeps_some { pass.old.me.view.client.parts ≡ C.parts → (sent_by pass.old.me.view.client ≡ []) × (pass.old.me.view.client.shares ≡ no_shares) }

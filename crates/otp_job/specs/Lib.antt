@@ -1,3 +1,4 @@
+pub mod Bridges
 pub mod Places
 pub mod Processes
 pub mod Turns

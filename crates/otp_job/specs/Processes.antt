@@ -1,6 +1,6 @@
 -- What contracts see of a process. (own, but for what traps and signals mean)
 use Rattle.std.specs.Prelude.{◌≡◌, ℕ, ⊤, Bool, true, false, Option, Some, None}
-use Rattle.otp_bridge.specs.declared.bridge.BridgePhase.TheVariants as bridge_phase
+use Rattle.otp_job.specs.declared.bridge.bridge.BridgePhase.TheVariants as bridge_phase
 use Rattle.otp_job.specs.declared.body.Body.{Body}
 use Rattle.otp_job.specs.declared.body.Body.TheVariants as body
 use Rattle.otp_job.specs.declared.process.ProcessPhase.{ProcessPhase}

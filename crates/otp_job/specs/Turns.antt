@@ -12,7 +12,7 @@ use Rattle.otp_reason.specs.declared.reason.Reason.{Reason}
 use Rattle.otp_reason.specs.declared.reason.Reason.TheVariants as reason
 use Rattle.otp_signals.specs.declared.signal.Signal.{Signal}
 use Rattle.otp_signals.specs.declared.signal.Signal.TheVariants as signal
-use Rattle.otp_bridge.specs.Bridges.{BridgeState, Starts, Turns}
+use Rattle.otp_job.specs.Bridges.{BridgeState, Starts, Turns}
 use Rattle.otp_job.specs.declared.job.Told.{Told}
 use Rattle.otp_job.specs.declared.job.Told.TheVariants as told
 use Rattle.otp_job.specs.declared.job.Turn.{Turn}

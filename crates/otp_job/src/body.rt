@@ -1,6 +1,6 @@
 ghost use Rattle.std.specs.Prelude.{◌≡◌};
 
-use otp_bridge::Bridge;
+use crate::bridge::Bridge;
 use std::marker::Model;
 
 /// The number of a supervisor's table, as the body of a child: there is one of it, which goes from the parent to the

@@ -1,8 +1,8 @@
 //! Where a job runs.
 ghost use Rattle.std.specs.Prelude.{◌≡◌};
 
+use crate::wake::{WakeWords, Waker};
 use otp_reason::Name;
-use otp_wake::{Post, Waker};
 use std::sync::Arc;
 
 /// What a job is handed at its start: which process it is, what time it is, and how it can be woken.
@@ -19,7 +19,7 @@ pub struct Place<'a> {
     /// The reading of the clock for this turn, in milliseconds.
     pub reading: u64,
     /// Where it is woken, if it runs where jobs can be woken.
-    pub post: Option<&'a Arc<Post>>,
+    pub post: Option<&'a Arc<WakeWords>>,
 }
 
 /// Why there is no waker.
@@ -51,7 +51,7 @@ pub struct Site<'a> {
     /// The reading of the clock, in milliseconds.
     pub reading: u64,
     /// Where jobs are woken, if they can be.
-    pub post: Option<&'a Arc<Post>>,
+    pub post: Option<&'a Arc<WakeWords>>,
 }
 
 impl Site<'_> {

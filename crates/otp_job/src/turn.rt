@@ -1,15 +1,15 @@
 ghost use Rattle.std.specs.Prelude.{◌≡◌, ◌≢◌, Some};
-ghost use Rattle.otp_bridge.specs.declared.bridge.BridgePhase.TheVariants as bridge_phase;
+ghost use Rattle.otp_job.specs.declared.bridge.bridge.BridgePhase.TheVariants as bridge_phase;
 ghost use Rattle.otp_reason.specs.declared.note.Started.TheVariants.{Up};
 ghost use Rattle.otp_job.specs.declared.process.ProcessPhase.TheVariants.{Fresh};
 ghost use Rattle.otp_job.specs.Processes.{IsRunnable, IsSettled, IsUp, process_at};
 ghost use Rattle.otp_job.specs.Turns.{done, exited, after_start, StartsJob, TellsJob, TurnsJob, StartsBridge, TurnsBridge, FirstTurn, LaterTurn};
 
 use crate::body::Body;
+use crate::bridge::{Bridge, Subsystem};
 use crate::job::{Job, Told, Turn};
 use crate::place::{Place, Site};
 use crate::process::{Inside, Process, ProcessPhase, Spent, Ticket};
-use otp_bridge::{Bridge, Subsystem};
 use otp_reason::{Delivery, Note, Reason, Started, deliver};
 use otp_signals::Signal;
 use std::alloc::Global;

@@ -6,7 +6,7 @@ use Rattle.otp_file.specs.Trees.{Table}
 use Rattle.otp_open.proofs.EachOpened.{none_lacks}
 use Rattle.otp_open.specs.Plans.{HaveBodies, plans_of}
 use Rattle.otp_open.specs.declared.plan.TablePlan.{TablePlan}
-use Rattle.otp_report.specs.declared.report.TableReport.{TableReport}
+use Rattle.otp_close.specs.declared.report.report.TableReport.{TableReport}
 use Rattle.otp_run.proofs.Places.{each_at}
 use Rattle.otp_spec.specs.Supervisor.{Supervisor}
 use Rattle.otp_sup.specs.Plans.{IsBegunBy}

@@ -13,8 +13,8 @@ use Rattle.otp_run.specs.Lists.{AllAt}
 use Rattle.otp_spec.specs.Flags.{is_simple}
 use Rattle.otp_spec.specs.declared.child.ChildSpec.{ChildSpec}
 use Rattle.otp_jobs.specs.Jobs.{body_of}
-use Rattle.otp_roles.specs.Faults.{is_nested}
-use Rattle.otp_roles.specs.Roles.{role_at}
+use Rattle.otp_file.specs.RolesFaults.{is_nested}
+use Rattle.otp_file.specs.Roles.{role_at}
 use Rattle.otp_jobs.specs.Plans.{PlanView, bodies_from, first_size, other_sizes, plan_of, plans_from, seen}
 use Rattle.otp_jobs.specs.declared.body.Calm.{Calm}
 use Rattle.otp_jobs.specs.declared.worker.WorkedJob.{WorkedJob}

@@ -1,3 +1,4 @@
 pub mod Begun
 pub mod Enough
 pub mod PlanLemmas
+pub mod Same

@@ -6,7 +6,7 @@ use Rattle.otp_job.specs.declared.body.Body.{Body}
 use Rattle.otp_spec.specs.declared.child.ChildSpec.{ChildSpec}
 use Rattle.otp_jobs.specs.declared.body.Calm.{Calm}
 use Rattle.otp_jobs.specs.declared.worker.WorkedJob.{WorkedJob}
-use Rattle.otp_roles.specs.Faults.{first_unknown, or_else, unknown_at, unknown_from}
+use Rattle.otp_file.specs.RolesFaults.{first_unknown, or_else, unknown_at, unknown_from}
 use Rattle.otp_jobs.specs.Plans.{bodies_from, joined, total, tree_sizes}
 
 -- neither of two is there where not one is

@@ -1,6 +1,6 @@
 -- What the worked jobs do (own).
 use Rattle.std.specs.Prelude.{Bool, true, false, codes}
-use Rattle.otp_bridge.specs.declared.bridge.BridgePhase.TheVariants.{New}
+use Rattle.otp_job.specs.declared.bridge.bridge.BridgePhase.TheVariants.{New}
 use Rattle.otp_job.specs.declared.body.Body.{Body}
 use Rattle.otp_job.specs.declared.body.Body.TheVariants as body
 use Rattle.otp_job.specs.declared.job.Turn.{Turn}
@@ -11,10 +11,10 @@ use Rattle.otp_reason.specs.declared.note.Started.TheVariants as started
 use Rattle.otp_reason.specs.declared.reason.Reason.{Reason}
 use Rattle.otp_reason.specs.declared.reason.Reason.TheVariants as reason
 use Rattle.otp_jobs.specs.declared.body.Calm.{Calm}
-use Rattle.otp_roles.specs.declared.role.Role.{Role}
-use Rattle.otp_roles.specs.declared.role.Role.TheVariants as role
-use Rattle.otp_roles.specs.declared.work.Work.{Work}
-use Rattle.otp_roles.specs.declared.work.Work.TheVariants.{Steady, Once, Crash, CrashOnce, Ignore, Refuse, Stubborn}
+use Rattle.otp_file.specs.declared.roles.role.Role.{Role}
+use Rattle.otp_file.specs.declared.roles.role.Role.TheVariants as role
+use Rattle.otp_file.specs.declared.roles.work.JobWork.{JobWork}
+use Rattle.otp_file.specs.declared.roles.work.JobWork.TheVariants.{Steady, Once, Crash, CrashOnce, Ignore, Refuse, Stubborn}
 use Rattle.otp_jobs.specs.declared.worker.Life.{Life}
 use Rattle.otp_jobs.specs.declared.worker.Life.TheVariants.{Unstarted, First, Later}
 use Rattle.otp_jobs.specs.declared.worker.WorkedJob.{WorkedJob}
@@ -24,12 +24,12 @@ abbrev pub crash : Reason
 crash = reason.Error (text_of (codes "crash"))
 
 -- only a stubborn job traps exits
-abbrev pub traps : Work → Bool
+abbrev pub traps : JobWork → Bool
 traps Stubborn = true
 traps _ = false
 
 -- what a start answers
-abbrev pub answer_of : Work → Started
+abbrev pub answer_of : JobWork → Started
 answer_of Ignore = started.Ignore
 answer_of Refuse = started.Fail (reason.Error (text_of (codes "refused")))
 answer_of _ = started.Up
@@ -41,7 +41,7 @@ life_after First = Later
 life_after Later = Later
 
 -- what a turn answers: the first after a start ends the job, or none does
-abbrev pub turn_of : Work → Life → Turn
+abbrev pub turn_of : JobWork → Life → Turn
 turn_of Once life = End reason.Normal
 turn_of Crash life = End crash
 turn_of CrashOnce First = End crash
@@ -49,7 +49,7 @@ turn_of CrashOnce _ = Again
 turn_of _ life = Again
 
 -- a job that was never started
-abbrev pub fresh_job : Work → WorkedJob
+abbrev pub fresh_job : JobWork → WorkedJob
 fresh_job work = record { work = work; life = Unstarted }
 
 -- the body of a child that runs this, which was never started

@@ -8,8 +8,8 @@ use Rattle.otp_spec.specs.Flags.{is_simple}
 use Rattle.otp_spec.specs.Supervisor.{Supervisor}
 use Rattle.otp_spec.specs.declared.child.ChildSpec.{ChildSpec}
 use Rattle.otp_spec.specs.declared.flags.SupFlags.{SupFlags}
-use Rattle.otp_roles.specs.Faults.{is_nested}
-use Rattle.otp_roles.specs.Roles.{role_at}
+use Rattle.otp_file.specs.RolesFaults.{is_nested}
+use Rattle.otp_file.specs.Roles.{role_at}
 use Rattle.otp_open.specs.declared.plan.TablePlan.{TablePlan}
 use Rattle.otp_jobs.specs.Jobs.{body_of}
 use Rattle.otp_jobs.specs.declared.body.Calm.{Calm}

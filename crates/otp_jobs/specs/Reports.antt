@@ -39,7 +39,7 @@ counts_line number counts =
     ++ count_text (codes " workers ") counts.workers
     ++ codes "\n"
 
--- the same of supervisors, the first of which has this number
+-- what each of these supervisors counts of its children, the first of which has this number
 abbrev pub counts_lines : ℕ → List CountsNow → List ℕ
 counts_lines number [] = []
 counts_lines number (counts ∷ all) = counts_line number counts ++ counts_lines (number + 1) all

@@ -2,20 +2,20 @@
 use Rattle.std.specs.Prelude.{◌≡◌, ℕ, Bool, ◌-◌, ◌^◌, ◌<◌, ⊤, List, ◌++◌, length, map, min}
 use Rattle.otp_core.specs.View.{state_of}
 use Rattle.otp_rules.specs.Needs.{numbers_of}
-use Rattle.otp_report.specs.Reports.{last_reason}
+use Rattle.otp_close.specs.Reports.{last_reason}
 use Rattle.otp_close.specs.Closes.{HaveBegun, IsReportOf}
 use Rattle.otp_close.specs.declared.closing.CloseFault.TheVariants as close
 use Rattle.otp_file.specs.Trees.{Table}
 use Rattle.otp_open.specs.Plans.{IsNotBare}
 use Rattle.otp_open.specs.declared.opening.SystemFault.{SystemFault}
 use Rattle.otp_open.specs.declared.opening.SystemFault.TheVariants as unopened
-use Rattle.otp_report.specs.declared.report.TableReport.{TableReport}
+use Rattle.otp_close.specs.declared.report.report.TableReport.{TableReport}
 use Rattle.otp_spec.specs.declared.limits.TheConstants.{MAX_TABLES}
 use Rattle.otp_tree.specs.declared.whole.CountedRun.{CountedRun}
 use Rattle.otp_tree.specs.declared.whole.RunFault.{RunFault}
 use Rattle.otp_tree.specs.declared.whole.RunFault.TheVariants as run
-use Rattle.otp_roles.specs.declared.fault.PlanFault.{PlanFault}
-use Rattle.otp_roles.specs.declared.fault.PlanFault.TheVariants as plan
+use Rattle.otp_file.specs.declared.roles.fault.PlanFault.{PlanFault}
+use Rattle.otp_file.specs.declared.roles.fault.PlanFault.TheVariants as plan
 use Rattle.otp_jobs.specs.Plans.{supervisors_of}
 use Rattle.otp_jobs.specs.Reports.{counts_text, report_text}
 use Rattle.otp_jobs.specs.declared.report.TableLine.{TableLine}
@@ -42,8 +42,8 @@ module _ {J S : Type 0} where
   IsNoneBare (run.Open back) = IsNotBare back.fault
   IsNoneBare (run.Close why) = ⊤
 
-  -- and why, where it was planned and has no report: it was not opened or not closed, or its report tells of a mismatch. No child
-  -- lacks its body, and no part of the tree is missing
+  -- why a tree that was planned has no report: it was not opened or not closed, or its report tells of a mismatch. No child lacks its
+  -- body, and no part of the tree is missing
   abbrev pub IsFaultOf : RunFault J S → FileRunFault → Type 0
   IsFaultOf (run.Open back) fault = IsFaultOfOpening back.fault fault
   IsFaultOf (run.Close (close.OutOfMemory back)) fault = fault ≡ OutOfMemory

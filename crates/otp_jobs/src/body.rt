@@ -3,10 +3,10 @@ ghost use Rattle.std.specs.Prelude.{◌≡◌};
 ghost use Rattle.otp_jobs.specs.Jobs.{body_of};
 
 use crate::worker::WorkedJob;
-use otp_bridge::{Bridge, Subsystem};
+use otp_file::roles::Role;
 use otp_job::Body;
+use otp_job::bridge::{Bridge, Subsystem};
 use otp_reason::{Reason, Started};
-use otp_roles::Role;
 
 /// What stands behind a worked bridge: it comes up, and never ends by itself.
 #[derive(Clone, Copy, Debug, PartialEq, Eq)]

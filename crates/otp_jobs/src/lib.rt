@@ -9,6 +9,7 @@ pub mod body;
 pub mod plan;
 pub mod report;
 pub mod run;
+pub mod serving;
 pub mod worker;
 
 pub use body::{Calm, WorkedBody, body_of};

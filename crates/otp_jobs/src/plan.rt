@@ -3,16 +3,16 @@ ghost use Rattle.std.specs.Prelude.{◌≡◌, ◌+◌, ◌≤◌, ◌<◌, ◌�
 ghost use Rattle.otp_file.specs.Trees.{tables_of};
 ghost use Rattle.otp_spec.specs.declared.limits.TheConstants.{MAX_TABLES};
 ghost use Rattle.otp_spec.specs.declared.child.ChildSpec.{ChildSpec};
-ghost use Rattle.otp_roles.specs.Faults.{IsOfPlan, first_unknown, plan_fault, table_seen, unknown_at, unknown_from};
-ghost use Rattle.otp_roles.specs.declared.fault.PlanFault.TheVariants.{TooManyTables};
+ghost use Rattle.otp_file.specs.RolesFaults.{IsOfPlan, first_unknown, plan_fault, table_seen, unknown_at, unknown_from};
+ghost use Rattle.otp_file.specs.declared.roles.fault.PlanFault.TheVariants.{TooManyTables};
 ghost use Rattle.otp_open.specs.Plans.{HaveBodies};
 ghost use Rattle.otp_jobs.specs.Plans.{bodies_from, first_size, joined, other_sizes, plan_of, plans_from, seen, total};
 
 use crate::body::{Calm, WorkedBody, body_of};
 use crate::worker::WorkedJob;
 use otp_file::TreeSpec;
+use otp_file::roles::{FlatTable, PlanFault, is_nested, role_at, runnable_tables};
 use otp_job::{Body, TableNo};
-use otp_roles::{FlatTable, PlanFault, is_nested, role_at, runnable_tables};
 use otp_spec::{ChildSpec, MAX_TABLES};
 use otp_tree::TablePlan;
 use std::alloc::{AllocError, Global};
@@ -47,7 +47,7 @@ impl<'a> TableNumbers<'a> {
 }
 
 /// The body of the child at a place: a table of the tree, or what its start stands for.
-#[tactic(auto, unfolding(otp_roles::specs::Faults::unknown_at))]
+#[tactic(auto, unfolding(otp_file::specs::RolesFaults::unknown_at))]
 fn body_at(
     numbers: &mut TableNumbers<'_>,
     nested: &[usize],

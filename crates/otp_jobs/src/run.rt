@@ -2,7 +2,7 @@
 ghost use Rattle.std.specs.Prelude.{◌≡◌, ◌++◌, Some, None, IfErr, IfOk, OnOk, length, map};
 ghost use Rattle.std.specs.Option.{option_map};
 ghost use Rattle.otp_file.specs.Trees.{tables_of};
-ghost use Rattle.otp_roles.specs.Faults.{plan_fault};
+ghost use Rattle.otp_file.specs.RolesFaults.{plan_fault};
 ghost use Rattle.otp_jobs.specs.Runs.{IsFaultOf, IsFaultOfOpening, IsNoneBare, IsNotPlanned, IsOfRun, IsRunOf, IsTooManyOnly, line_of, run_fault, run_text};
 ghost use Rattle.otp_open.specs.Plans.{IsNotBare};
 ghost use Rattle.otp_tree.specs.Closes.{IsRunNoneMissing};
@@ -12,8 +12,8 @@ use crate::plan::plan_tree;
 use crate::report::{TableLine, write_counts, write_report};
 use crate::worker::WorkedJob;
 use otp_file::TreeSpec;
+use otp_file::roles::{PlanFault, Settings};
 use otp_reason::Name;
-use otp_roles::{PlanFault, Settings};
 use otp_tree::{
     CloseFault, CountedRun, Gate, RunFault, SystemFault, TableReport, Unopened, run_tree_counted,
 };

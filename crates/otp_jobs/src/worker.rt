@@ -4,9 +4,9 @@ ghost use Rattle.otp_reason.specs.Texts.{text_of};
 ghost use Rattle.otp_reason.specs.declared.reason.Reason.TheVariants as reason;
 ghost use Rattle.otp_jobs.specs.Jobs.{answer_of, crash, fresh_job, life_after, turn_of};
 
+use otp_file::roles::JobWork;
 use otp_job::{Job, Told, Turn};
 use otp_reason::{Reason, Started, Text};
-use otp_roles::Work;
 
 /// How far a job has come in its starts.
 #[derive(Clone, Copy, Debug, PartialEq, Eq)]
@@ -35,13 +35,13 @@ impl Life {
 /// started before.
 #[derive(Clone, Copy, Debug, PartialEq, Eq)]
 pub struct WorkedJob {
-    pub work: Work,
+    pub work: JobWork,
     pub life: Life,
 }
 
 impl WorkedJob {
     /// A job that was never started.
-    pub fn new(work: Work) -> WorkedJob
+    pub fn new(work: JobWork) -> WorkedJob
         ensures { result ≡ fresh_job work }
     {
         WorkedJob {
@@ -66,23 +66,23 @@ fn refused() -> Reason
 }
 
 /// What a start answers.
-fn answer(work: Work) -> Started
+fn answer(work: JobWork) -> Started
     ensures { result ≡ answer_of work }
 {
     match work {
-        Work::Ignore => Started::Ignore,
-        Work::Refuse => Started::Fail(refused()),
+        JobWork::Ignore => Started::Ignore,
+        JobWork::Refuse => Started::Fail(refused()),
         _ => Started::Up,
     }
 }
 
 /// What a turn answers, in this life.
-fn outcome(work: Work, life: Life) -> Turn
+fn outcome(work: JobWork, life: Life) -> Turn
     ensures { result ≡ turn_of work life }
 {
     match (work, life) {
-        (Work::Once, _) => Turn::End(Reason::Normal),
-        (Work::Crash, _) | (Work::CrashOnce, Life::First) => Turn::End(crash()),
+        (JobWork::Once, _) => Turn::End(Reason::Normal),
+        (JobWork::Crash, _) | (JobWork::CrashOnce, Life::First) => Turn::End(crash()),
         _ => Turn::Again,
     }
 }
@@ -98,7 +98,7 @@ impl Job for WorkedJob {
     ghost turned = { λ before told answer after. (answer ≡ turn_of before.work before.life) × (after ≡ before) };
 
     fn traps(&self) -> bool {
-        matches!(self.work, Work::Stubborn)
+        matches!(self.work, JobWork::Stubborn)
     }
 
     fn start(&mut self, _number: u64) -> Started {

@@ -97,7 +97,7 @@ OkLeavesDownFrom =
     (m : ℕ) (s : State) (g : Progress) (events : List Event) (e : Event) → IsBasis m s g → StopsItsChild s g → AreApart s → IsLawfulFrom m s events
     → AreDownAfter (state_after s events) e (progress_at s g events e)
 
--- and from the state that was never opened
+-- it is so from the state that was never opened on
 abbrev pub OkLeavesDown : Type 0
 OkLeavesDown =
     (flags : SupFlags) (specs : List ChildSpec) (events : List Event) (e : Event) → supervisor_fault flags specs ≡ None → IsLawfulHistory (empty_state flags specs) events

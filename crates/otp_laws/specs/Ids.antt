@@ -28,7 +28,7 @@ AreSpecsApart specs = (id : Name) → count_by (is_named id) specs ≤ 1
 abbrev pub IdsStayApart : Type 0
 IdsStayApart = (s : State) (events : List Event) → AreSpecsApart s.specs → AreNamedApart s.rows → AreNamedApart (state_after s events).rows
 
--- and it holds from the first event on, of each supervisor that may be opened
+-- it holds from the first event on, of each supervisor that may be opened
 abbrev pub IdsApart : Type 0
 IdsApart = (flags : SupFlags) (specs : List ChildSpec) (events : List Event) → supervisor_fault flags specs ≡ None → AreNamedApart (state_after (empty_state flags specs) events).rows
 
@@ -37,7 +37,7 @@ abbrev pub ProcessesNumberedFrom : Type 0
 ProcessesNumberedFrom =
     (s : State) (given : List ℕ) (events : List Event) → IsLawfulHistory s events → AreAmong given s.rows → AreAmong (given ++ numbers_of events) (state_after s events).rows
 
--- and from the first event on, one that it started
+-- from the first event on it is one that the history started
 abbrev pub ProcessesNumbered : Type 0
 ProcessesNumbered =
     (flags : SupFlags) (specs : List ChildSpec) (events : List Event) → IsLawfulHistory (empty_state flags specs) events
@@ -47,7 +47,7 @@ ProcessesNumbered =
 abbrev pub ProcessesStayGoneFrom : Type 0
 ProcessesStayGoneFrom = (m : ℕ) (s : State) (events : List Event) (p : ℕ) → IsLawfulFrom m s events → p < m → (IsHeld s.rows p → ⊥) → IsHeld (state_after s events).rows p → ⊥
 
--- and so from the state that was never opened
+-- it is so from the state that was never opened on
 abbrev pub ProcessesStayGone : Type 0
 ProcessesStayGone =
     (flags : SupFlags) (specs : List ChildSpec) (events later : List Event) (p : ℕ) → IsLawfulHistory (empty_state flags specs) (events ++ later) → IsIn p (numbers_of events)

@@ -52,7 +52,7 @@ RowsStartAnewFrom =
     → IsLawfulFrom m s (events ++ e ∷ between ++ f ∷ []) → StartsIn (state_after s events) e slot p → StartsIn (state_after s (events ++ e ∷ between)) f slot q
     → EndIsTaken (between ++ f ∷ []) p
 
--- and so from the state that was never opened
+-- it is so from the state that was never opened on
 abbrev pub RowsStartAnew : Type 0
 RowsStartAnew =
     (flags : SupFlags) (specs : List ChildSpec) (events between : List Event) (e f : Event) (slot p q : ℕ) → supervisor_fault flags specs ≡ None
@@ -102,7 +102,7 @@ OrdersEndAfterAll =
     → IsLawfulHistory (empty_state flags specs) (events ++ e ∷ between ++ f ∷ []) → StartsIn (state_after (empty_state flags specs) events) e slot p
     → Contains (step (state_after (empty_state flags specs) (events ++ e ∷ between)) f).orders (effect.End end) → EndIsTaken (between ++ f ∷ []) p
 
--- and from order to order: nor is it after an order to start a child
+-- from order to order: no End is ordered between an order to start a child and the note of its end
 abbrev pub OrdersEndAfterStarts : Type 0
 OrdersEndAfterStarts =
     (flags : SupFlags) (specs : List ChildSpec) (events between : List Event) (e f : Event) (id : Option Name) (p : ℕ) (end : SupEnd)

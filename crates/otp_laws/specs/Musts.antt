@@ -65,7 +65,7 @@ DeletesUndefinedFrom =
     → Brings e.kind (state_after s events).waiting (item.Call c (call.DeleteChild id))
     → ChangesNone (state_after s events) e ⊎ RemovesUndefined (state_after s events) e id
 
--- and so from the state that was never opened
+-- it is so from the state that was never opened on
 abbrev pub DeletesUndefined : Type 0
 DeletesUndefined =
     (flags : SupFlags) (specs : List ChildSpec) (events : List Event) (e : Event) (c : ℕ) (id : Name) → IsLawfulHistory (empty_state flags specs) events

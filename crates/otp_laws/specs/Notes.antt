@@ -57,7 +57,7 @@ UnawaitedChangesNoneFrom =
     (m : ℕ) (s : State) (g : Progress) (events : List Event) (e : Event) (x : Note) → IsBasis m s g → IsLawfulFrom m s events
     → Brings e.kind (state_after s events).waiting (item.Note x) → IsUnawaited x (state_after s events).rows → ChangesNone (state_after s events) e
 
--- and so from the state that was never opened
+-- it is so from the state that was never opened on
 abbrev pub UnawaitedChangesNone : Type 0
 UnawaitedChangesNone =
     (flags : SupFlags) (specs : List ChildSpec) (events : List Event) (e : Event) (x : Note) → IsLawfulHistory (empty_state flags specs) events
@@ -71,7 +71,7 @@ NotesCountOnceFrom =
     → Brings e.kind (state_after s events).waiting (item.Note x) → Brings f.kind (state_after s (events ++ e ∷ between)).waiting (item.Note y) → AreAlike x y
     → ChangesNone (state_after s events) e ⊎ ChangesNone (state_after s (events ++ e ∷ between)) f
 
--- and so from the state that was never opened
+-- it is so from the state that was never opened on
 abbrev pub NotesCountOnce : Type 0
 NotesCountOnce =
     (flags : SupFlags) (specs : List ChildSpec) (events between : List Event) (e f : Event) (x y : Note)

@@ -99,7 +99,7 @@ AnswersTrueFrom =
     (m : ℕ) (s : State) (g : Progress) (events : List Event) (e : Event) → IsBasis m s g → IsOfOpened s g → StartsAreOrdered s g → IsLawfulFrom m s events
     → TellsTruth (state_after s events) e (progress_at s g events e)
 
--- and from the state that was never opened
+-- it is so from the state that was never opened on
 abbrev pub AnswersTrue : Type 0
 AnswersTrue =
     (flags : SupFlags) (specs : List ChildSpec) (events : List Event) (e : Event) → IsLawfulHistory (empty_state flags specs) events

@@ -24,7 +24,7 @@ abbrev pub call_in : Item → Option ℕ
 call_in (item.Note _) = None
 call_in (item.Call c _) = Some c
 
--- that of the call which the event brings from the inbox
+-- the number of the call that the event brings from the inbox
 abbrev pub call_taken : Kind → Option ℕ
 call_taken (kind.Took i) = call_in i
 call_taken _ = None
@@ -33,7 +33,7 @@ abbrev pub call_waiting : Waiting → Option ℕ
 call_waiting (waiting.Item i) = call_in i
 call_waiting (waiting.Retry _) = None
 
--- that of the call for which work is open
+-- the number of the call for which work is open
 abbrev pub call_of_work : Option Sequel → Option ℕ
 call_of_work (Some (sequel.Added c)) = Some c
 call_of_work (Some (sequel.Restarted c)) = Some c
@@ -59,7 +59,7 @@ CallsAnsweredOnceFrom =
     → times c (answered_calls (state_after s events).replies) + times c (open_calls (state_after s events))
     ≡ times c (answered_calls s.replies) + times c (open_calls s) + times c (taken_calls events)
 
--- and from the state that was never opened, as were taken
+-- from the state that was never opened on, as many are answered or open as were taken
 abbrev pub CallsAnsweredOnce : Type 0
 CallsAnsweredOnce =
     (flags : SupFlags) (specs : List ChildSpec) (events : List Event) (c : ℕ)

@@ -27,7 +27,7 @@ StartsOfChildrenFrom =
     (m : ℕ) (s : State) (g : Progress) (events : List Event) (e : Event) → IsBasis m s g → IsLawfulFrom m s (events ++ e ∷ [])
     → All (StartsItsChild (state_after s events) e) (step (state_after s events) e).orders
 
--- and from the state that was never opened
+-- it is so from the state that was never opened on
 abbrev pub StartsOfChildren : Type 0
 StartsOfChildren =
     (flags : SupFlags) (specs : List ChildSpec) (events : List Event) (e : Event) → IsLawfulHistory (empty_state flags specs) (events ++ e ∷ [])

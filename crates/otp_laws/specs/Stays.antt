@@ -34,11 +34,11 @@ was_told _ = false
 abbrev pub stays_stopped : Row → Bool
 stays_stopped row = was_told row.state && not (is_removed row)
 
--- the same of the first row whose process has this number
+-- the first row whose process has this number was told to stop, and stays
 abbrev pub keeps_row : ℕ → List Row → Bool
 keeps_row p rows = option_map_or stays_stopped (option_and_then (slice_get rows) (position (row_has (has_process p)) rows)) false
 
--- the same at the note that a process has ended whose child was told to stop, if its row stays
+-- no row comes or goes at the note that a process has ended whose child was told to stop, if its row stays
 abbrev pub StopKeepsChildren : Type 0
 StopKeepsChildren =
     (s : State) (e : Event) (p : ℕ) (r : Reason) → e.kind ≡ kind.Took (item.Note (note.Exit p r)) → s.waiting ≡ [] → keeps_row p s.rows ≡ true

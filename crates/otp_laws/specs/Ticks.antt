@@ -36,7 +36,7 @@ TicksKillEachLateFrom =
     (m : ℕ) (s : State) (g : Progress) (events : List Event) (e : Event) → IsFit m s g → Awaits s → IsLawfulFrom m s events → e.kind ≡ kind.Ticked
     → KillsEachLate (state_after s events) e.reading (step (state_after s events) e)
 
--- and so from the state that was never opened
+-- it is so from the state that was never opened on
 abbrev pub TicksKillEachLate : Type 0
 TicksKillEachLate =
     (flags : SupFlags) (specs : List ChildSpec) (events : List Event) (e : Event) → IsLawfulHistory (empty_state flags specs) events → e.kind ≡ kind.Ticked

@@ -1,2 +1,5 @@
-pub mod Spans
+pub mod Answers
+pub mod Reaches
 pub mod Shortened
+pub mod Spans
+pub mod Stages

@@ -4,7 +4,7 @@ use Rattle.otp_tree.specs.declared.whole.RunFault.{RunFault}
 use Rattle.otp_tree.specs.declared.whole.RunFault.TheVariants as run
 
 module _ {J S : Type 0} where
-  -- the same fault, with the first so many of its plans
+  -- one fault is another, with the first so many of its plans
   abbrev pub IsCutShort : ℕ → RunFault J S → RunFault J S → Type 0
   IsCutShort known (run.Open back) (run.Open short) = (short.fault ≡ back.fault) × (short.plans.items ≡ take known back.plans.items)
   IsCutShort known (run.Close why) (run.Close short) = short ≡ why

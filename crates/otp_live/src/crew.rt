@@ -1,12 +1,12 @@
 //! What the hands of a running tree share.
 
+use crate::calling::Caller;
 use crate::clock::Stopwatch;
 use crate::span::Span;
 use crate::watch::{Seen, Watch};
-use otp_caller::Caller;
 use otp_job::Ticket;
+use otp_job::wake::{Bells, StopFlag, WakeWords};
 use otp_tree::{Happening, MAX_HANDS};
-use otp_wake::{Bells, Post, Stop};
 use std::alloc::{AllocError, Global};
 use std::sync::Arc;
 use std::sync::atomic::{AtomicU64, Ordering};
@@ -20,13 +20,13 @@ const PATIENCE: u32 = 32;
 /// A hand writes down where a supervisor rests before it announces a sleep, and so before it looks for the last time; whoever sends a
 /// letter to that reads it after the sending. So either the look finds the letter, or the sender finds the hand and rings: the four
 /// steps stand in one order, as they are `SeqCst`, those of the inbox too. Where a process waits for a signal, or to be woken, the
-/// [`Post`] knows in the same way.
+/// [`WakeWords`] knows in the same way.
 #[derive(Drop)]
 pub(crate) struct Crew<'a, C, W, J: Drop, S: Drop> {
     pub clock: &'a Stopwatch<'a, C>,
-    pub stop: &'a Stop,
+    pub stop: &'a StopFlag,
     span: Span,
-    pub post: Arc<Post>,
+    pub post: Arc<WakeWords>,
     pub callers: &'a [Caller<J, S>],
     pub alloc: Global,
     watch: &'a W,
@@ -52,11 +52,11 @@ impl<'a, C: Clock, W: Watch, J: Drop, S: Drop> Crew<'a, C, W, J, S> {
     pub fn of(
         alloc: Global,
         clock: &'a Stopwatch<'a, C>,
-        stop: &'a Stop,
+        stop: &'a StopFlag,
         span: Span,
         watch: &'a W,
         callers: &'a [Caller<J, S>],
-        post: Arc<Post>,
+        post: Arc<WakeWords>,
         tables: usize,
         hands: usize,
     ) -> Result<Self, AllocError> {

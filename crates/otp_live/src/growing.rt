@@ -7,15 +7,15 @@ ghost use Rattle.otp_tree.specs.Closes.{IsRunMismatchOnly, IsRunNoneMissing, IsR
 ghost use Rattle.otp_open.specs.Plans.{HaveBodies, plans_of};
 ghost use Rattle.otp_live.specs.Shortened.{IsCutShort};
 
+use crate::calling::Caller;
 use crate::live::{close_callers, run_places};
 use crate::span::Span;
 use crate::watch::Watch;
-use otp_bridge::Subsystem;
-use otp_caller::Caller;
 use otp_job::Job;
+use otp_job::bridge::Subsystem;
+use otp_job::wake::StopFlag;
 use otp_open::{with_spares, without_spares};
 use otp_tree::{Report, RunFault, TablePlan, Unopened};
-use otp_wake::Stop;
 use std::alloc::Global;
 use std::sync::Wait;
 use std::thread::Threads;
@@ -42,7 +42,7 @@ pub fn run_growing<R, J, S, W>(
     alloc: Global,
     tree: Growing<J, S>,
     hands: usize,
-    stop: &Stop,
+    stop: &StopFlag,
     watch: &W,
     callers: &[Caller<J, S>],
 ) -> Result<Report<J, S>, RunFault<J, S>>

@@ -7,22 +7,22 @@ ghost use Rattle.otp_hand.specs.Standings.{standing_of};
 ghost use Rattle.otp_tree.specs.Closes.{IsRunMismatchOnly, IsRunNoneMissing, IsRunOpenFault};
 ghost use Rattle.otp_open.specs.Plans.{HaveBodies, first_plans, plans_of};
 
+use crate::calling::Caller;
+use crate::calling::locked::{Locked, ReachNaming};
 use crate::clock::Stopwatch;
 use crate::crew::Crew;
 use crate::crowd::Crowd;
-use crate::seat::Seat;
+use crate::seat::CrewSeat;
 use crate::served::serve_tree;
 use crate::span::{Span, sooner};
 use crate::watch::Watch;
-use otp_bridge::Subsystem;
-use otp_caller::Caller;
-use otp_caller::locked::{Locked, ReachNaming};
 use otp_hand::TreeNaming;
 use otp_job::Job;
+use otp_job::bridge::Subsystem;
+use otp_job::wake::{StopFlag, WakeWords};
 use otp_open::slots_of;
 use otp_sup::SupNaming;
 use otp_tree::{Hand, Report, RunFault, System, TablePlan, Unopened};
-use otp_wake::{Post, Stop};
 use std::alloc::{AllocError, Global};
 use std::sync::{Arc, Mutex, Wait};
 use std::thread;
@@ -48,7 +48,7 @@ pub fn run<R, J, S, W>(
     alloc: Global,
     plans: Vec<TablePlan<J, S>>,
     hands: usize,
-    stop: &Stop,
+    stop: &StopFlag,
     watch: &W,
 ) -> Result<Report<J, S>, RunFault<J, S>>
 where
@@ -81,7 +81,7 @@ pub fn run_with_callers<R, J, S, W>(
     alloc: Global,
     plans: Vec<TablePlan<J, S>>,
     hands: usize,
-    stop: &Stop,
+    stop: &StopFlag,
     watch: &W,
     callers: &[Caller<J, S>],
 ) -> Result<Report<J, S>, RunFault<J, S>>
@@ -149,7 +149,7 @@ where
     ensures bodies { OnOk result (HaveBodies plans.items) }
     ensures opened { IfErr result (IsRunOpenFault plans.items) }
 {
-    let Ok(stop) = Stop::new(alloc) else {
+    let Ok(stop) = StopFlag::new(alloc) else {
         return Err(RunFault::Open(Unopened::for_memory(plans)));
     };
     let callers = Vec::new(alloc);
@@ -171,7 +171,7 @@ fn run_spanned<R, J, S, W>(
     alloc: Global,
     plans: Vec<TablePlan<J, S>>,
     hands: usize,
-    stop: &Stop,
+    stop: &StopFlag,
     span: Span,
     watch: &W,
     callers: &[Caller<J, S>],
@@ -209,7 +209,7 @@ pub(crate) fn run_places<R, J, S, W>(
     plans: Vec<TablePlan<J, S>>,
     known: usize,
     hands: usize,
-    stop: &Stop,
+    stop: &StopFlag,
     span: Span,
     watch: &W,
     callers: &[Caller<J, S>],
@@ -261,7 +261,7 @@ pub fn close_callers<R: Wait, J: Drop, S: Drop>(rt: &R, callers: &[Caller<J, S>]
 fn gather<'a, C: Clock, W: Watch, J: Drop, S: Drop>(
     alloc: Global,
     clock: &'a Stopwatch<'a, C>,
-    stop: &'a Stop,
+    stop: &'a StopFlag,
     span: Span,
     watch: &'a W,
     callers: &'a [Caller<J, S>],
@@ -270,7 +270,7 @@ fn gather<'a, C: Clock, W: Watch, J: Drop, S: Drop>(
 ) -> Result<Crew<'a, C, W, J, S>, AllocError>
     requires { tables ≤ MAX_TABLES }
 {
-    let post = Post::open(alloc, slots_of(tables), stop.bells())?;
+    let post = WakeWords::open(alloc, slots_of(tables), stop.bells())?;
     let post = Arc::new(alloc, post)?;
     Crew::of(
         alloc, clock, stop, span, watch, callers, post, tables, hands,
@@ -280,7 +280,7 @@ fn gather<'a, C: Clock, W: Watch, J: Drop, S: Drop>(
 /// Serves by a hand until the root has ended, or the time of the run is over.
 pub(crate) fn serve<N, K, R, J, S, W>(
     rt: &R,
-    seat: &Seat<'_, R, W, J, S>,
+    seat: &CrewSeat<'_, R, W, J, S>,
     system: &System<N, J, S>,
     hand: &mut Hand<N, J, S>,
     client: &Mutex<Locked<N, K, J, S>>,
@@ -329,7 +329,7 @@ where
 /// So many turns of a hand, at one reading of the clock. False where it found nothing to do in the last.
 fn serve_some<N, R, J, S, W>(
     rt: &R,
-    seat: &Seat<'_, R, W, J, S>,
+    seat: &CrewSeat<'_, R, W, J, S>,
     system: &System<N, J, S>,
     hand: &mut Hand<N, J, S>,
     turns: u32,
@@ -354,7 +354,7 @@ where
 /// Asks the root to shut down, and wakes the hand in which it waits.
 fn ask<N, K, R, J, S, W>(
     rt: &R,
-    seat: &Seat<'_, R, W, J, S>,
+    seat: &CrewSeat<'_, R, W, J, S>,
     system: &System<N, J, S>,
     client: &Mutex<Locked<N, K, J, S>>,
 )
@@ -375,7 +375,7 @@ where
 /// Does what callers want, and wakes the hands in which those wait that are called.
 fn serve_callers<N, K, R, J, S, W>(
     rt: &R,
-    seat: &Seat<'_, R, W, J, S>,
+    seat: &CrewSeat<'_, R, W, J, S>,
     system: &System<N, J, S>,
     client: &Mutex<Locked<N, K, J, S>>,
 )
@@ -396,7 +396,7 @@ where
 }
 
 /// Looks whether calls were answered, and tells those who made them.
-fn collect_answers<N, R, J, S, W>(rt: &R, seat: &Seat<'_, R, W, J, S>, system: &System<N, J, S>)
+fn collect_answers<N, R, J, S, W>(rt: &R, seat: &CrewSeat<'_, R, W, J, S>, system: &System<N, J, S>)
 where
     N: SupNaming,
     R: Wait + Clock,
@@ -434,7 +434,7 @@ where
 
 /// Notes a batch of turns of a hand. Where it has much to do for long, other hands may take of that, and one is woken for it.
 fn share<N, C, W, J, S>(
-    seat: &Seat<'_, C, W, J, S>,
+    seat: &CrewSeat<'_, C, W, J, S>,
     crowd: &mut Crowd,
     hand: &mut Hand<N, J, S>,
     is_busy: bool,
@@ -461,10 +461,10 @@ where
 /// Sleeps until there may be something to do for a hand. It returns at once where there is.
 ///
 /// The sleep is announced before the last look at all that may have come, so none that comes after the look is missed
-/// ([`Bells`](otp_wake::Bells)).
+/// ([`Bells`](otp_job::wake::Bells)).
 fn sleep<N, R, J, S, W>(
     rt: &R,
-    seat: &Seat<'_, R, W, J, S>,
+    seat: &CrewSeat<'_, R, W, J, S>,
     system: &System<N, J, S>,
     hand: &mut Hand<N, J, S>,
 )

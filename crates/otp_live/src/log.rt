@@ -145,7 +145,7 @@ fn write_why(
     write_reason(reason, out)
 }
 
-/// Appends how many restarts within how many seconds are borne, of which there was one more.
+/// Appends the intensity and the period that one restart too many has broken.
 fn write_bearing(flags: &SupFlags, out: &mut Vec<u8>) -> Result<(), AllocError> {
     out.extend_from_slice(b": more than ")?;
     write_number(flags.intensity, out)?;

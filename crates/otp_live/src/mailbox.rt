@@ -1,8 +1,8 @@
 //! A mailbox of a job, into which any thread posts.
 
 use crossbeam_queue::SegQueue;
+use otp_job::wake::Waker;
 use otp_job::{NoWaker, Place};
-use otp_wake::Waker;
 use std::alloc::{AllocError, Global};
 use std::sync::{Mutex, Wait};
 

@@ -10,7 +10,7 @@ use std::time::Clock;
 
 /// A hand's place among the others: what it does is told to them.
 #[derive(Drop)]
-pub(crate) struct Seat<'a, C, W, J: Drop, S: Drop> {
+pub(crate) struct CrewSeat<'a, C, W, J: Drop, S: Drop> {
     pub crew: &'a Crew<'a, C, W, J, S>,
     pub hand: usize,
     // Whether it served a supervisor since it was asked last. The hand's own thread alone reads and writes these three, so no
@@ -21,10 +21,10 @@ pub(crate) struct Seat<'a, C, W, J: Drop, S: Drop> {
     waits: AtomicU64,
 }
 
-impl<'a, C, W, J: Drop, S: Drop> Seat<'a, C, W, J, S> {
+impl<'a, C, W, J: Drop, S: Drop> CrewSeat<'a, C, W, J, S> {
     /// The place of a hand that has done nothing yet.
     pub fn of(crew: &'a Crew<'a, C, W, J, S>, hand: usize) -> Self {
-        Seat {
+        CrewSeat {
             crew,
             hand,
             served: AtomicU64::new(0),
@@ -59,7 +59,7 @@ fn take(counted: &AtomicU64) -> u64 {
     so_far
 }
 
-impl<C: Clock, W: Watch, J: Drop, S: Drop> Listener for Seat<'_, C, W, J, S> {
+impl<C: Clock, W: Watch, J: Drop, S: Drop> Listener for CrewSeat<'_, C, W, J, S> {
     fn sent(&self, ticket: &Ticket, what: Happening) {
         count(&self.steps);
         self.crew.sent(self.hand, ticket, what);

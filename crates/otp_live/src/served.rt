@@ -9,20 +9,20 @@ ghost use Rattle.otp_tree.specs.Closes.{IsRunMismatchOnly, IsRunNoneMissing, IsR
 ghost use Rattle.otp_open.specs.Opens.{slots_of};
 ghost use Rattle.otp_open.specs.Plans.{ArePlanned, HaveBodies, first_plans};
 
+use crate::calling::locked::{Locked, ReachNaming};
 use crate::crew::Crew;
 use crate::live::serve;
-use crate::seat::Seat;
+use crate::seat::CrewSeat;
 use crate::watch::Watch;
-use otp_bridge::Subsystem;
-use otp_caller::locked::{Locked, ReachNaming};
 use otp_hand::TreeNaming;
 use otp_inbox::InboxNaming;
+use otp_job::bridge::Subsystem;
 use otp_job::{Body, Job};
 use otp_run::RunNaming;
 use otp_signals::WordsNaming;
 use otp_sup::PlanNaming;
 use otp_tree::{
-    Client, Hand, MAX_HANDS, Opened, Parts, Report, RunFault, System, TablePlan, finish_tree,
+    Hand, MAX_HANDS, Opened, Parts, Report, RunFault, System, TablePlan, TreeClient, finish_tree,
 };
 use std::alloc::Global;
 use std::marker::Brand;
@@ -121,8 +121,8 @@ fn serve_locked<N, K, R, J, S, W>(
     crew: &Crew<'_, R, W, J, S>,
     system: &System<N, J, S>,
     hands: &mut Vec<Hand<N, J, S>>,
-    client: Client<N, Body<J, S>>,
-) -> Client<N, Body<J, S>>
+    client: TreeClient<N, Body<J, S>>,
+) -> TreeClient<N, Body<J, S>>
 where
     N: TreeNaming + Send + Sync,
     K: ReachNaming + Send + Sync,
@@ -204,6 +204,6 @@ where
     W: Watch,
     ensures { standing_of hand.new ≡ standing_of hand.old }
 {
-    let seat = Seat::of(crew, index);
+    let seat = CrewSeat::of(crew, index);
     serve(rt, &seat, system, hand, client);
 }

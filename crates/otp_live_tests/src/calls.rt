@@ -1,13 +1,13 @@
 // The supervisors of a tree that runs are called from threads of their own.
 
 use crate::guests::{
-    Guest, Kind, MEMORY, Plan, Shared, flags, got, make_guest, may_run, named, same, tree,
+    Guest, GuestKind, GuestPlan, MEMORY, Shared, flags, got, make_guest, may_run, named, same, tree,
 };
-use otp_bridge::BoxedSubsystem;
 use otp_job::Body;
+use otp_job::bridge::BoxedSubsystem;
 use otp_live::{
-    AddError, CallError, Caller, DeleteRefusal, RestartRefusal, Stop, TerminateRefusal, Unwatched,
-    run_with_callers,
+    AddError, CallError, Caller, DeleteRefusal, RestartRefusal, StopFlag, TerminateRefusal,
+    Unwatched, run_with_callers,
 };
 use otp_reason::Name;
 use otp_spec::ChildSpec;
@@ -25,9 +25,9 @@ type Calling = Caller<Guest, BoxedSubsystem>;
 fn live_with<R>(
     rt: &R,
     alloc: Global,
-    plans: Vec<Plan>,
+    plans: Vec<GuestPlan>,
     hands: usize,
-    stop: &Stop,
+    stop: &StopFlag,
     callers: &[Calling],
 ) -> u64
 where
@@ -66,7 +66,7 @@ fn call_all<R: Wait + Abort>(rt: &R, caller: &Calling, shared: &Arc<Shared>) {
 
 // Starts a child more.
 fn start<R: Wait + Abort>(rt: &R, caller: &Calling, shared: &Arc<Shared>, id: Name) {
-    let job = make_guest(rt, Kind::Steady, shared);
+    let job = make_guest(rt, GuestKind::Steady, shared);
     let started = caller.start_child(rt, 0, ChildSpec::new(id, id), Body::Worker(job));
     let number = got(rt, "the child was not started", started);
     assert!(rt; number.is_some());
@@ -86,7 +86,7 @@ fn call_and_stop<R: Wait + Abort>(rt: &R, caller: &Calling, shared: &Arc<Shared>
 fn call_beside<R: Threads + Wait + Clock + Abort + Sync>(rt: &R, alloc: Global, hands: usize) {
     let shared = Shared::new(rt, alloc);
     let callers = [got(rt, MEMORY, Caller::new(&shared.stop))];
-    let kinds = [Kind::Steady, Kind::Busy];
+    let kinds = [GuestKind::Steady, GuestKind::Busy];
     let plans = tree(rt, alloc, &kinds, &kinds, &shared, flags(1));
     let (live, ()) = thread::join(
         rt,
@@ -117,7 +117,13 @@ fn await_all(callers: &[Calling]) {
 }
 
 // Runs a tree that is refused, as a child of its last supervisor has no body: but not before each caller wants something.
-fn run_in_vain<R>(rt: &R, alloc: Global, plans: Vec<Plan>, stop: &Stop, callers: &[Calling])
+fn run_in_vain<R>(
+    rt: &R,
+    alloc: Global,
+    plans: Vec<GuestPlan>,
+    stop: &StopFlag,
+    callers: &[Calling],
+)
 where
     R: Threads + Wait + Clock + Abort + Sync,
 {
@@ -136,7 +142,7 @@ where
 // A child is to be started. There is no run, and its body is back.
 fn start_in_vain<R: Wait + Abort>(rt: &R, caller: &Calling, shared: &Arc<Shared>) {
     let id = named(rt, b"late");
-    let job = make_guest(rt, Kind::Steady, shared);
+    let job = make_guest(rt, GuestKind::Steady, shared);
     match caller.start_child(rt, 0, ChildSpec::new(id, id), Body::Worker(job)) {
         Err((CallError::Over, Some(body))) => drop(body),
         _ => panic!(rt; "the body is back"),
@@ -144,7 +150,7 @@ fn start_in_vain<R: Wait + Abort>(rt: &R, caller: &Calling, shared: &Arc<Shared>
 }
 
 // Supervisors are to be added. There is no run, and their plans are back.
-fn add_in_vain<R: Wait + Abort>(rt: &R, caller: &Calling, plans: Vec<Plan>) {
+fn add_in_vain<R: Wait + Abort>(rt: &R, caller: &Calling, plans: Vec<GuestPlan>) {
     assert!(rt; !plans.is_empty());
     match caller.add_tree(rt, plans) {
         Err(AddError::Over(Some(plans))) => {
@@ -156,7 +162,13 @@ fn add_in_vain<R: Wait + Abort>(rt: &R, caller: &Calling, plans: Vec<Plan>) {
 }
 
 // Both at the same time, by a caller each.
-fn want_in_vain<R>(rt: &R, one: &Calling, other: &Calling, plans: Vec<Plan>, shared: &Arc<Shared>)
+fn want_in_vain<R>(
+    rt: &R,
+    one: &Calling,
+    other: &Calling,
+    plans: Vec<GuestPlan>,
+    shared: &Arc<Shared>,
+)
 where
     R: Threads + Wait + Abort + Sync,
 {
@@ -176,7 +188,7 @@ fn what_was_wanted_comes_back(rt: HostRuntime) {
         got(rt, MEMORY, Caller::new(&shared.stop)),
         got(rt, MEMORY, Caller::new(&shared.stop)),
     ];
-    let kinds = [Kind::Steady, Kind::Busy];
+    let kinds = [GuestKind::Steady, GuestKind::Busy];
     let plans = tree(rt, alloc, &kinds, &kinds, &shared, flags(1));
     let others = tree(rt, alloc, &kinds, &kinds, &shared, flags(1));
     let ((), ()) = thread::join(

@@ -1,6 +1,6 @@
 // The supervisors of a tree that was drawn up are known by their paths: to callers, to a watch, and in the report.
 
-use crate::guests::{Guest, Kind, MEMORY, Shared, got, make_guest, same};
+use crate::guests::{Guest, GuestKind, MEMORY, Shared, got, make_guest, same};
 use otp::{
     BoxedSubsystem, Caller, Report, Seen, SupFlags, TreeDraft, Watch, find_path, run_with_callers,
 };
@@ -40,7 +40,7 @@ impl Watch for Told {
     }
 }
 
-pub fn add(rt: &impl Abort, draft: &mut Draft, id: &str, kind: Kind, shared: &Arc<Shared>) {
+pub fn add(rt: &impl Abort, draft: &mut Draft, id: &str, kind: GuestKind, shared: &Arc<Shared>) {
     let job = make_guest(rt, kind, shared);
     got(rt, MEMORY, draft.add_worker(id, job));
 }
@@ -48,10 +48,10 @@ pub fn add(rt: &impl Abort, draft: &mut Draft, id: &str, kind: Kind, shared: &Ar
 // A worker, and a pool of two below it.
 pub fn shop(rt: &impl Abort, alloc: Global, shared: &Arc<Shared>) -> Draft {
     let mut pool = Draft::new(alloc, SupFlags::default());
-    add(rt, &mut pool, "a", Kind::Steady, shared);
-    add(rt, &mut pool, "b", Kind::Steady, shared);
+    add(rt, &mut pool, "a", GuestKind::Steady, shared);
+    add(rt, &mut pool, "b", GuestKind::Steady, shared);
     let mut root = Draft::new(alloc, SupFlags::default());
-    add(rt, &mut root, "db", Kind::Steady, shared);
+    add(rt, &mut root, "db", GuestKind::Steady, shared);
     got(rt, MEMORY, root.add_supervisor("pool", pool));
     root
 }

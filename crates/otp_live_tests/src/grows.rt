@@ -1,7 +1,7 @@
 // Trees are added to one that runs, by threads beside it.
 
 use crate::drawn::{Draft, add, starts_in};
-use crate::guests::{Guest, Kind, MEMORY, Shared, got, named, same};
+use crate::guests::{Guest, GuestKind, MEMORY, Shared, got, named, same};
 use otp::{
     AddFault, BoxedSubsystem, CallError, Caller, ChildSpec, ChildType, GrowingTree, NotAdded,
     Report, Shutdown, SupFlags, Unrun, Unwatched, grow, run_growing,
@@ -21,8 +21,8 @@ type Grown = Result<Body<Guest, BoxedSubsystem>, NotAdded<Guest, BoxedSubsystem>
 // A supervisor of two workers.
 fn pool(rt: &impl Abort, alloc: Global, shared: &Arc<Shared>) -> Draft {
     let mut pool = Draft::new(alloc, SupFlags::default());
-    add(rt, &mut pool, "a", Kind::Steady, shared);
-    add(rt, &mut pool, "b", Kind::Busy, shared);
+    add(rt, &mut pool, "a", GuestKind::Steady, shared);
+    add(rt, &mut pool, "b", GuestKind::Busy, shared);
     pool
 }
 
@@ -123,7 +123,7 @@ fn run_root<R: Threads + Wait + Clock + Abort + Sync>(
     callers: &[Calling],
 ) -> Result<Report<Guest, BoxedSubsystem>, Unrun<Guest, BoxedSubsystem>> {
     let mut root = Draft::new(alloc, SupFlags::default());
-    add(rt, &mut root, "db", Kind::Steady, shared);
+    add(rt, &mut root, "db", GuestKind::Steady, shared);
     let tree = GrowingTree { root, room: 2 };
     run_growing(rt, alloc, tree, hands, &shared.stop, &Unwatched, callers)
 }

@@ -3,9 +3,9 @@ ghost use Rattle.std.specs.Prelude.{◌≡◌, ◌<◌, ◌≤◌, true, length,
 ghost use Rattle.otp_run.specs.Rule.{all_parts};
 ghost use Rattle.otp_spec.specs.declared.limits.TheConstants.{MAX_TABLES};
 
-use otp_bridge::BoxedSubsystem;
+use otp_job::bridge::BoxedSubsystem;
 use otp_job::{Body, Job, Place, Told, Turn};
-use otp_live::{Stop, Unwatched, Waker, Watch, run};
+use otp_live::{StopFlag, Unwatched, Waker, Watch, run};
 use otp_reason::{Name, Reason, Started, Text};
 use otp_spec::{ChildSpec, MAX_TABLES, Shutdown, SupFlags};
 use otp_tree::{MAX_HANDS, Report, TableDraft, TablePlan};
@@ -19,7 +19,7 @@ use std::time::Clock;
 
 /// What a job does.
 #[derive(Clone, Copy, Debug, PartialEq, Eq)]
-pub enum Kind {
+pub enum GuestKind {
     /// Waits until it is asked to shut down.
     Steady,
     /// Waits, and doesn't heed it: only a kill ends it.
@@ -46,7 +46,7 @@ pub struct Shared {
     pub inside: AtomicU64,
     pub met: AtomicU64,
     pub waker: OnceLock<Waker>,
-    pub stop: Stop,
+    pub stop: StopFlag,
 }
 
 impl Shared {
@@ -58,7 +58,7 @@ impl Shared {
             inside: AtomicU64::new(0),
             met: AtomicU64::new(0),
             waker: OnceLock::new(),
-            stop: got(rt, MEMORY, Stop::new(alloc)),
+            stop: got(rt, MEMORY, StopFlag::new(alloc)),
         };
         got(rt, MEMORY, Arc::new(alloc, shared))
     }
@@ -74,7 +74,7 @@ const LOOKS: u32 = 10_000;
 /// A job of a test.
 #[derive(Drop)]
 pub struct Guest {
-    kind: Kind,
+    kind: GuestKind,
     shared: Arc<Shared>,
     crash: Text,
 }
@@ -134,7 +134,7 @@ impl Job for Guest {
     }
 
     fn begin(&mut self, place: &Place<'_>) -> Started {
-        if let Kind::Counts(_) = self.kind {
+        if let GuestKind::Counts(_) = self.kind {
             if let Ok(waker) = place.waker() {
                 let _taken = self.shared.waker.try_set(waker).is_ok();
             }
@@ -143,27 +143,27 @@ impl Job for Guest {
     }
 
     fn turn(&mut self, told: Told) -> Turn {
-        if told == Told::Shutdown && self.kind != Kind::Deaf {
+        if told == Told::Shutdown && self.kind != GuestKind::Deaf {
             return Turn::End(Reason::Shutdown);
         }
         match self.kind {
-            Kind::Steady | Kind::Deaf => Turn::Wait,
-            Kind::Crashes(starts) if self.shared.starts() < starts => {
+            GuestKind::Steady | GuestKind::Deaf => Turn::Wait,
+            GuestKind::Crashes(starts) if self.shared.starts() < starts => {
                 Turn::End(Reason::Error(self.crash))
             }
-            Kind::Crashes(_) => Turn::Wait,
-            Kind::Counts(goal) => self.wait_for(&self.shared.given, goal),
-            Kind::Stops(goal) => self.work_until(goal),
-            Kind::Busy => Turn::Again,
-            Kind::Meets(turns) => self.meet(turns),
+            GuestKind::Crashes(_) => Turn::Wait,
+            GuestKind::Counts(goal) => self.wait_for(&self.shared.given, goal),
+            GuestKind::Stops(goal) => self.work_until(goal),
+            GuestKind::Busy => Turn::Again,
+            GuestKind::Meets(turns) => self.meet(turns),
         }
     }
 }
 
-pub type Plan = TablePlan<Guest, BoxedSubsystem>;
+pub type GuestPlan = TablePlan<Guest, BoxedSubsystem>;
 
 /// Such a job.
-pub fn make_guest(rt: &impl Abort, kind: Kind, shared: &Arc<Shared>) -> Guest {
+pub fn make_guest(rt: &impl Abort, kind: GuestKind, shared: &Arc<Shared>) -> Guest {
     Guest {
         kind,
         shared: got(rt, MEMORY, Arc::try_clone(shared)),
@@ -186,14 +186,14 @@ fn add(
     rt: &impl Abort,
     draft: &mut TableDraft<Guest, BoxedSubsystem>,
     name: &[u8],
-    kind: Kind,
+    kind: GuestKind,
     shared: &Arc<Shared>,
 ) {
     let id = named(rt, name);
     let mut spec = ChildSpec::new(id, id);
     match kind {
-        Kind::Deaf => spec.shutdown = Shutdown::Milliseconds(20),
-        Kind::Steady => spec.shutdown = Shutdown::Infinity,
+        GuestKind::Deaf => spec.shutdown = Shutdown::Milliseconds(20),
+        GuestKind::Steady => spec.shutdown = Shutdown::Infinity,
         _ => {}
     }
     let job = make_guest(rt, kind, shared);
@@ -205,10 +205,10 @@ fn make_plan(
     rt: &impl Abort,
     alloc: Global,
     below: &[usize],
-    kinds: &[Kind],
+    kinds: &[GuestKind],
     shared: &Arc<Shared>,
     flags: SupFlags,
-) -> Plan {
+) -> GuestPlan {
     let mut draft = TableDraft::new(alloc);
     for table in below {
         got(rt, MEMORY, draft.add_supervisor(named(rt, b"sub"), *table));
@@ -223,11 +223,11 @@ fn make_plan(
 pub fn tree(
     rt: &impl Abort,
     alloc: Global,
-    kinds: &[Kind],
-    below: &[Kind],
+    kinds: &[GuestKind],
+    below: &[GuestKind],
     shared: &Arc<Shared>,
     flags: SupFlags,
-) -> Vec<Plan>
+) -> Vec<GuestPlan>
     ensures { length result.items ≡ 2 }
 {
     let root = make_plan(rt, alloc, &[1], kinds, shared, flags);
@@ -274,7 +274,7 @@ fn outcome_of(report: &Report<Guest, BoxedSubsystem>) -> Outcome {
 }
 
 /// A tree of so many supervisors can be run with so many hands. A thread that runs one beside others asks by itself.
-pub fn may_run(rt: &impl Abort, plans: &[Plan], hands: usize)
+pub fn may_run(rt: &impl Abort, plans: &[GuestPlan], hands: usize)
     ensures tables { length plans.now ≤ MAX_TABLES }
     ensures some { 0 < hands }
     ensures few { hands ≤ all_parts }
@@ -288,9 +288,9 @@ pub fn may_run(rt: &impl Abort, plans: &[Plan], hands: usize)
 pub fn run_watched<R, W>(
     rt: &R,
     alloc: Global,
-    plans: Vec<Plan>,
+    plans: Vec<GuestPlan>,
     hands: usize,
-    stop: &Stop,
+    stop: &StopFlag,
     watch: &W,
 ) -> Outcome
 where
@@ -306,7 +306,13 @@ where
 }
 
 /// Runs a tree until it has ended, where nobody watches.
-pub fn unwatched<R>(rt: &R, alloc: Global, plans: Vec<Plan>, hands: usize, stop: &Stop) -> Outcome
+pub fn unwatched<R>(
+    rt: &R,
+    alloc: Global,
+    plans: Vec<GuestPlan>,
+    hands: usize,
+    stop: &StopFlag,
+) -> Outcome
 where
     R: Threads + Wait + Clock + Abort + Sync,
 {

@@ -1,5 +1,5 @@
 // Trees that run until they have ended by themselves, or were stopped.
-use crate::guests::{Kind, Outcome, Shared, flags, run_watched, same, tree, unwatched};
+use crate::guests::{GuestKind, Outcome, Shared, flags, run_watched, same, tree, unwatched};
 use otp_live::{Happening, Seen, Watch};
 use otp_reason::Reason;
 use std::alloc::Global;
@@ -14,7 +14,7 @@ use std::time::Clock;
 fn stop_before<R: Threads + Wait + Clock + Abort + Sync>(rt: &R, alloc: Global, hands: usize) {
     let shared = Shared::new(rt, alloc);
     shared.stop.raise();
-    let kinds = [Kind::Steady, Kind::Busy];
+    let kinds = [GuestKind::Steady, GuestKind::Busy];
     all_ended(rt, lives(rt, alloc, &kinds, &kinds, &shared, 1, hands));
     drop(shared);
 }
@@ -24,8 +24,8 @@ fn stop_before<R: Threads + Wait + Clock + Abort + Sync>(rt: &R, alloc: Global, 
 fn lives<R: Threads + Wait + Clock + Abort + Sync>(
     rt: &R,
     alloc: Global,
-    kinds: &[Kind],
-    below: &[Kind],
+    kinds: &[GuestKind],
+    below: &[GuestKind],
     shared: &Arc<Shared>,
     intensity: u64,
     hands: usize,
@@ -61,7 +61,7 @@ fn stop_after(shared: &Shared, starts: u64) {
 fn stop_beside<R: Threads + Wait + Clock + Abort + Sync>(
     rt: &R,
     alloc: Global,
-    kinds: &[Kind; 4],
+    kinds: &[GuestKind; 4],
     hands: usize,
 ) {
     let shared = Shared::new(rt, alloc);
@@ -79,8 +79,13 @@ fn stop_beside<R: Threads + Wait + Clock + Abort + Sync>(
 // not heard in another hand, the stop would wait for ever.
 #[test]
 fn another_thread_stops_a_tree(rt: HostRuntime) {
-    let steady = [Kind::Steady; 4];
-    let mixed = [Kind::Busy, Kind::Steady, Kind::Busy, Kind::Steady];
+    let steady = [GuestKind::Steady; 4];
+    let mixed = [
+        GuestKind::Busy,
+        GuestKind::Steady,
+        GuestKind::Busy,
+        GuestKind::Steady,
+    ];
     for _ in 0..20 {
         stop_beside(&rt, rt.alloc(), &steady, 1);
         stop_beside(&rt, rt.alloc(), &steady, 3);
@@ -93,7 +98,7 @@ fn another_thread_stops_a_tree(rt: HostRuntime) {
 fn a_deadline_wakes_a_tree(rt: HostRuntime) {
     for hands in [1, 4] {
         let shared = Shared::new(&rt, rt.alloc());
-        let kinds = [Kind::Deaf, Kind::Stops(2)];
+        let kinds = [GuestKind::Deaf, GuestKind::Stops(2)];
         let seen = lives(&rt, rt.alloc(), &kinds, &[], &shared, 1, hands);
         drop(shared);
         all_ended(&rt, seen);
@@ -105,8 +110,8 @@ fn a_deadline_wakes_a_tree(rt: HostRuntime) {
 fn a_tree_ends_by_itself(rt: HostRuntime) {
     for hands in [1, 4] {
         let shared = Shared::new(&rt, rt.alloc());
-        let kinds = [Kind::Steady, Kind::Crashes(u64::MAX)];
-        let root = [Kind::Steady];
+        let kinds = [GuestKind::Steady, GuestKind::Crashes(u64::MAX)];
+        let root = [GuestKind::Steady];
         let seen = lives(&rt, rt.alloc(), &root, &kinds, &shared, 3, hands);
         assert!(rt; !shared.stop.is_raised());
         drop(shared);
@@ -119,7 +124,7 @@ fn a_tree_ends_by_itself(rt: HostRuntime) {
 #[test]
 fn a_hand_that_is_refused_memory_pauses(rt: HostRuntime) {
     let shared = Shared::new(&rt, rt.alloc());
-    let below = [Kind::Crashes(u64::MAX)];
+    let below = [GuestKind::Crashes(u64::MAX)];
     let seen = lives(&rt, rt.alloc(), &[], &below, &shared, 3, 1);
     drop(shared);
     all_ended(&rt, seen);
@@ -130,8 +135,8 @@ fn a_hand_that_is_refused_memory_pauses(rt: HostRuntime) {
 fn a_tree_restarts_until_it_is_stopped(rt: HostRuntime) {
     for hands in [1, 2, 4, 8] {
         let shared = Shared::new(&rt, rt.alloc());
-        let kinds = [Kind::Crashes(50), Kind::Stops(50)];
-        let root = [Kind::Busy];
+        let kinds = [GuestKind::Crashes(50), GuestKind::Stops(50)];
+        let root = [GuestKind::Busy];
         let seen = lives(&rt, rt.alloc(), &root, &kinds, &shared, 1000, hands);
         drop(shared);
         all_ended(&rt, seen);
@@ -190,7 +195,7 @@ impl Watch for Counting {
 fn a_watch_is_told(rt: HostRuntime) {
     let shared = Shared::new(&rt, rt.alloc());
     let counting = Counting::new();
-    let kinds = [Kind::Steady, Kind::Stops(4)];
+    let kinds = [GuestKind::Steady, GuestKind::Stops(4)];
     let plans = tree(&rt, rt.alloc(), &kinds, &kinds, &shared, flags(1));
     let seen = run_watched(&rt, rt.alloc(), plans, 2, &shared.stop, &counting);
     drop(shared);
@@ -208,7 +213,7 @@ fn a_watch_is_told(rt: HostRuntime) {
 fn a_watch_is_told_who_gave_up(rt: HostRuntime) {
     let shared = Shared::new(&rt, rt.alloc());
     let counting = Counting::new();
-    let below = [Kind::Crashes(u64::MAX)];
+    let below = [GuestKind::Crashes(u64::MAX)];
     let plans = tree(&rt, rt.alloc(), &[], &below, &shared, flags(2));
     let seen = run_watched(&rt, rt.alloc(), plans, 2, &shared.stop, &counting);
     drop(shared);
@@ -242,7 +247,7 @@ fn a_watch_is_told_when(rt: HostRuntime) {
     let timing = Timing {
         killed: AtomicU64::new(0),
     };
-    let kinds = [Kind::Deaf, Kind::Stops(2)];
+    let kinds = [GuestKind::Deaf, GuestKind::Stops(2)];
     let plans = tree(&rt, rt.alloc(), &kinds, &[], &shared, flags(1));
     let seen = run_watched(&rt, rt.alloc(), plans, 2, &shared.stop, &timing);
     drop(shared);

@@ -1,7 +1,7 @@
 // How a tree that was drawn up is served: by a thread for each hand, round by round, and by turns that are counted.
 
 use crate::drawn::{Draft, add, shop, starts_in};
-use crate::guests::{Guest, Kind, Shared, got, same};
+use crate::guests::{Guest, GuestKind, Shared, got, same};
 use otp::{
     BoxedSubsystem, CountedRun, CountsNow, Leader, Led, Note, Round, Still, SupFlags, Unwatched,
     lead, run, run_counted,
@@ -22,8 +22,8 @@ fn meets<R: Threads + Wait + Clock + Abort + Sync>(
 ) -> u64 {
     let shared = Shared::new(rt, alloc);
     let mut root = Draft::new(alloc, SupFlags::default());
-    add(rt, &mut root, "a", Kind::Meets(turns), &shared);
-    add(rt, &mut root, "b", Kind::Meets(turns), &shared);
+    add(rt, &mut root, "a", GuestKind::Meets(turns), &shared);
+    add(rt, &mut root, "b", GuestKind::Meets(turns), &shared);
     let ran = run(rt, alloc, root, hands, &shared.stop, &Unwatched);
     let report = got(rt, "the tree was not run", ran);
     same(rt, "the processes that are left", report.live, 0);

@@ -1,10 +1,10 @@
 // Jobs that wait are woken by other threads.
 ghost use Rattle.std.specs.Prelude.{◌≡◌, true, length};
 
-use crate::guests::{Kind, MEMORY, Shared, flags, got, named, same, tree, unwatched};
-use otp_bridge::BoxedSubsystem;
+use crate::guests::{GuestKind, MEMORY, Shared, flags, got, named, same, tree, unwatched};
+use otp_job::bridge::BoxedSubsystem;
 use otp_job::{Job, Place, Told, Turn};
-use otp_live::{Mailbox, Stop, Unwatched, run};
+use otp_live::{Mailbox, StopFlag, Unwatched, run};
 use otp_reason::{Reason, Started};
 use otp_spec::{MAX_TABLES, SupFlags};
 use otp_tree::{TableDraft, TablePlan};
@@ -56,8 +56,8 @@ fn wake_from_four<R: Threads + Abort + Sync>(rt: &R, alloc: Global, shared: &Sha
 // The job stops the tree once it has seen all that was given: were one of the 10,000 wakes lost, all would wait for ever.
 fn wake_all<R: Threads + Wait + Clock + Abort + Sync>(rt: &R, alloc: Global, hands: usize) {
     let shared = Shared::new(rt, alloc);
-    let kinds = [Kind::Steady, Kind::Counts(4 * WAKES)];
-    let plans = tree(rt, alloc, &kinds, &[Kind::Steady], &shared, flags(1));
+    let kinds = [GuestKind::Steady, GuestKind::Counts(4 * WAKES)];
+    let plans = tree(rt, alloc, &kinds, &[GuestKind::Steady], &shared, flags(1));
     let (seen, ()) = thread::join(
         rt,
         || unwatched(rt, alloc, plans, hands, &shared.stop),
@@ -80,7 +80,7 @@ struct Reader<R: Drop> {
     posts: Arc<Mailbox<u64>>,
     sum: Arc<AtomicU64>,
     left: u64,
-    stop: Stop,
+    stop: StopFlag,
 }
 
 impl<R: Wait + Drop> Reader<R> {
@@ -147,7 +147,7 @@ fn reader_tree<R: Wait + Send + Drop>(
 }
 
 // Runs readers until they have ended.
-fn run_readers<R>(rt: &R, alloc: Global, plans: Vec<ReaderPlan<R>>, stop: &Stop)
+fn run_readers<R>(rt: &R, alloc: Global, plans: Vec<ReaderPlan<R>>, stop: &StopFlag)
 where
     R: Threads + Wait + Clock + Abort + Send + Sync + Drop,
 {
@@ -186,7 +186,7 @@ const POSTS: u64 = 1_000;
 struct Shelf {
     posts: Arc<Mailbox<u64>>,
     sum: Arc<AtomicU64>,
-    stop: Stop,
+    stop: StopFlag,
 }
 
 fn make_shelf(rt: &impl Abort, alloc: Global) -> Shelf {
@@ -194,7 +194,7 @@ fn make_shelf(rt: &impl Abort, alloc: Global) -> Shelf {
     Shelf {
         posts: got(rt, MEMORY, Arc::new(alloc, mailbox)),
         sum: got(rt, MEMORY, Arc::new(alloc, AtomicU64::new(0))),
-        stop: got(rt, MEMORY, Stop::new(alloc)),
+        stop: got(rt, MEMORY, StopFlag::new(alloc)),
     }
 }
 

@@ -3,7 +3,7 @@ use Rattle.std.specs.Prelude.{ℕ, ◌-◌, Bool, ◌&&◌, ◌||◌, List, [], 
 use Rattle.std.specs.Str.{bytes_eq}
 use Rattle.otp_logs.specs.Lines.{lines_of}
 use Rattle.otp_logs.specs.Words.{begins, behind, behind_word, has, stripped, word_of}
-use Rattle.otp_logs.specs.Times.{behind_clock, behind_moment, fits, is_clock, is_moment}
+use Rattle.otp_logs.specs.Times.{behind_clock, behind_moment, behind_stamp, fits, is_clock, is_moment, is_stamp}
 use Rattle.otp_logs.specs.Objects.{message_of, value_of}
 use Rattle.otp_logs.specs.declared.format.Format.{Format}
 use Rattle.otp_logs.specs.declared.format.Format.TheVariants.{Otp, Elixir, Supervisord, Journal, JournalObjects, Objects, Daemon, DaemonObjects}
@@ -42,7 +42,7 @@ is_level text =
     begins (codes " INFO ") text || begins (codes " WARN ") text || begins (codes " CRIT ") text || begins (codes " DEBG ") text
     || begins (codes " ERRO ") text || begins (codes " TRAC ") text || begins (codes " BLAT ") text
 
--- and what supervisord says behind it
+-- what supervisord says behind its level
 unfoldable pub is_supervisords : List ℕ → Bool
 is_supervisords words =
     begins (codes "spawned: '") words || begins (codes "exited: ") words || begins (codes "success: ") words
@@ -62,12 +62,20 @@ is_daemon_word word =
 unfoldable pub is_of_daemon : List ℕ → Bool
 is_of_daemon words = is_seconds (word_of words) && is_daemon_word (word_of (behind_word words))
 
+-- systemd says so, behind a time
+unfoldable pub is_systemds : List ℕ → Bool
+is_systemds text = has (codes " systemd[") text
+
+-- systemd says so, behind a day without its year
+unfoldable pub is_of_journal : List ℕ → Bool
+is_of_journal line = is_stamp line && is_systemds (behind_stamp line)
+
 -- what a line says behind a date and a time
 unfoldable pub sign_behind : List ℕ → Sign
 sign_behind text =
     if is_level text && is_supervisords (behind_word (stripped text)) then Of Supervisord
     else if is_of_daemon (stripped text) then Of Daemon
-    else if has (codes " systemd[") text then Of Journal
+    else if is_systemds text then Of Journal
     else if is_otps text then Of Otp
     else if is_of_elixir text then Of Elixir
     else Nothing
@@ -89,6 +97,7 @@ sign_of line =
     else if is_plain line then Own
     else if is_moment line then sign_behind (behind_moment line)
     else if is_clock line && is_of_elixir (behind_clock line) then Of Elixir
+    else if is_of_journal line then Of Journal
     else Nothing
 
 -- what a sign says, and else these lines

@@ -38,6 +38,20 @@ is_clock text = fits (codes "00:00:00") text
 unfoldable pub behind_clock : List ℕ → List ℕ
 behind_clock text = behind_fraction (drop 8 text)
 
+-- a text begins with the first letters of a month
+unfoldable pub is_month : List ℕ → Bool
+is_month text =
+    begins (codes "Jan") text || begins (codes "Feb") text || begins (codes "Mar") text || begins (codes "Apr") text
+    || begins (codes "May") text || begins (codes "Jun") text || begins (codes "Jul") text || begins (codes "Aug") text
+    || begins (codes "Sep") text || begins (codes "Oct") text || begins (codes "Nov") text || begins (codes "Dec") text
+
+-- a day without its year and a time of the day, as Nov 26 20:49:00, and what stands behind them
+unfoldable pub is_stamp : List ℕ → Bool
+is_stamp text = is_month text && (fits (codes " 00 00:00:00") (drop 3 text) || fits (codes "  0 00:00:00") (drop 3 text))
+
+unfoldable pub behind_stamp : List ℕ → List ℕ
+behind_stamp text = behind_fraction (drop 15 text)
+
 -- a date and a time of the day, as 2026-11-26T20:49:00.125Z, and what stands behind them
 unfoldable pub is_moment : List ℕ → Bool
 is_moment text = fits (codes "0000-00-00T00:00:00") text || fits (codes "0000-00-00 00:00:00") text

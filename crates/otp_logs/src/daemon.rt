@@ -1,10 +1,10 @@
 //! The log of `otp-procs`, as text and as JSON.
 
+use crate::log::{Called, Event, Log};
+use crate::moment::{Moment, read_moment};
+use crate::seeking::{behind_word, first_word, is_at, is_text, place_of_bytes, up_to};
+use crate::values::{number_of, text_of};
 use otp_foreign::{Range, byte_of};
-use otp_logged::{
-    Called, Event, Moment, Work, behind_word, first_word, is_at, is_text, number_of,
-    place_of_bytes, read_moment, text_of, up_to,
-};
 use std::alloc::{AllocError, Global};
 
 /// What a line of such a log says.
@@ -89,41 +89,37 @@ impl Daemon {
     }
 
     /// What a line says.
-    fn take(&mut self, work: &mut Work<'_>, said: Line) -> Result<(), AllocError> {
-        let text = work.text;
+    fn take(&mut self, log: &mut Log<'_>, said: Line) -> Result<(), AllocError> {
+        let text = log.text;
         let called = Called::alone(said.path);
-        work.reason.clear();
+        log.reason.clear();
         match said.what.of(text) {
             b"ask" | b"kill" => self.note_asked(text, said.number),
-            b"up" => work.take(Event::Up, said.moment, called),
-            b"stop" => work.stop(said.moment),
+            b"up" => log.take(Event::Up, said.moment, called),
+            b"stop" => log.stop(said.moment),
             b"exit" | b"fail" => {
                 if self.was_asked(text, said.number) {
                     return Ok(());
                 }
-                work.reason.extend_from_slice(said.reason.of(text))?;
-                work.take(Event::End, said.moment, called)
+                log.reason.extend_from_slice(said.reason.of(text))?;
+                log.take(Event::End, said.moment, called)
             }
             _ => Ok(()),
         }
     }
 
     /// The next line, which is text.
-    pub(crate) fn take_line(&mut self, work: &mut Work<'_>, line: Range) -> Result<(), AllocError> {
-        match read_words(work.text, line) {
-            Some(said) => self.take(work, said),
+    pub(crate) fn take_line(&mut self, log: &mut Log<'_>, line: Range) -> Result<(), AllocError> {
+        match read_words(log.text, line) {
+            Some(said) => self.take(log, said),
             None => Ok(()),
         }
     }
 
     /// The next line, which is an object of JSON.
-    pub(crate) fn take_object(
-        &mut self,
-        work: &mut Work<'_>,
-        line: Range,
-    ) -> Result<(), AllocError> {
-        match read_object(work.text, line) {
-            Some(said) => self.take(work, said),
+    pub(crate) fn take_object(&mut self, log: &mut Log<'_>, line: Range) -> Result<(), AllocError> {
+        match read_object(log.text, line) {
+            Some(said) => self.take(log, said),
             None => Ok(()),
         }
     }

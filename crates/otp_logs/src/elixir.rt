@@ -1,11 +1,13 @@
 //! What Elixir's Logger writes of children and their supervisors.
 
-use otp_foreign::{Range, byte_of, trimmed};
-use otp_logged::{
-    Called, Event, Moment, Work, Zone, behind_word, first_word, from_place, is_at, is_text,
-    line_behind, place_behind, place_of_bytes, read_clock, read_moment, stripped, up_to,
-    write_error, write_term,
+use crate::log::{Called, Event, Log};
+use crate::moment::{Moment, Zone, read_clock, read_moment};
+use crate::reason::{write_error, write_term};
+use crate::seeking::{
+    behind_word, first_word, from_place, is_at, is_text, line_behind, place_behind, place_of_bytes,
+    stripped, up_to,
 };
+use otp_foreign::{Range, byte_of, trimmed};
 use std::alloc::AllocError;
 
 /// Half a day.
@@ -45,7 +47,7 @@ impl Reading {
 
 /// What Elixir's Logger says: the first line of a message, and those behind it.
 #[derive(Clone, Copy)]
-pub(crate) struct Said {
+pub(crate) struct Message {
     pub head: Range,
     /// Why a process ended.
     pub reason: Option<Range>,
@@ -60,13 +62,13 @@ fn message_in(text: &[u8], rest: Range) -> Option<Range> {
 }
 
 /// What is said from this part of a line on.
-fn said_from(text: &[u8], line: Range, head: Range) -> Said {
+fn said_from(text: &[u8], line: Range, head: Range) -> Message {
     let reason = line_behind(text, line);
     let raised = match reason {
         Some(next) => line_behind(text, next),
         None => None,
     };
-    Said {
+    Message {
         head,
         reason,
         raised,
@@ -109,11 +111,11 @@ fn write_reason(
 }
 
 /// Leaves the reason that is said in its place.
-fn read_reason(work: &mut Work<'_>, said: Said) -> Result<(), AllocError> {
-    work.reason.clear();
+fn read_reason(log: &mut Log<'_>, said: Message) -> Result<(), AllocError> {
+    log.reason.clear();
     match said.reason {
-        Some(line) => write_reason(work.text, line, said.raised, &mut work.reason),
-        None => write_error(b"", b"unknown", &mut work.reason),
+        Some(line) => write_reason(log.text, line, said.raised, &mut log.reason),
+        None => write_error(b"", b"unknown", &mut log.reason),
     }
 }
 
@@ -142,8 +144,8 @@ fn supervisor_in(text: &[u8], words: Range) -> (Range, Range) {
 }
 
 /// A report of a supervisor: `Child NAME of Supervisor NAME terminated`.
-fn take_child(work: &mut Work<'_>, moment: Moment, said: Said) -> Result<(), AllocError> {
-    let text = work.text;
+fn take_child(log: &mut Log<'_>, moment: Moment, said: Message) -> Result<(), AllocError> {
+    let text = log.text;
     let from = from_place(said.head, said.head.start.saturating_add(6));
     let Some(end) = place_of_bytes(text, from, b" of Supervisor ") else {
         return Ok(());
@@ -154,55 +156,55 @@ fn take_child(work: &mut Work<'_>, moment: Moment, said: Said) -> Result<(), All
         name: plain_name(text, up_to(from, end)),
     };
     match trimmed(text, behind).of(text) {
-        b"started" => work.take(Event::Up, moment, called),
+        b"started" => log.take(Event::Up, moment, called),
         b"terminated" | b"failed to start" => {
-            read_reason(work, said)?;
-            work.take(Event::End, moment, called)
+            read_reason(log, said)?;
+            log.take(Event::End, moment, called)
         }
         _ => Ok(()),
     }
 }
 
 /// What a process says of its own end: `GenServer NAME terminating`.
-fn take_server(work: &mut Work<'_>, moment: Moment, said: Said) -> Result<(), AllocError> {
-    let text = work.text;
+fn take_server(log: &mut Log<'_>, moment: Moment, said: Message) -> Result<(), AllocError> {
+    let text = log.text;
     let from = behind_word(text, said.head);
     let Some(end) = place_of_bytes(text, from, b" terminating") else {
         return Ok(());
     };
     let called = Called::alone(plain_name(text, up_to(from, end)));
-    read_reason(work, said)?;
-    work.take(Event::End, moment, called)
+    read_reason(log, said)?;
+    log.take(Event::End, moment, called)
 }
 
 /// What a message says. Where supervisors report, what processes say themselves would be told twice.
 pub(crate) fn take_said(
-    work: &mut Work<'_>,
+    log: &mut Log<'_>,
     has_reports: bool,
     moment: Moment,
-    said: Said,
+    said: Message,
 ) -> Result<(), AllocError> {
-    if is_at(work.text, said.head.start, b"Child ") {
-        return take_child(work, moment, said);
+    if is_at(log.text, said.head.start, b"Child ") {
+        return take_child(log, moment, said);
     }
-    if !has_reports && is_at(work.text, said.head.start, b"GenServer ") {
-        return take_server(work, moment, said);
+    if !has_reports && is_at(log.text, said.head.start, b"GenServer ") {
+        return take_server(log, moment, said);
     }
     Ok(())
 }
 
 /// What a line with this time says.
 fn take_message(
-    work: &mut Work<'_>,
+    log: &mut Log<'_>,
     has_reports: bool,
     moment: Moment,
     line: Range,
     rest: Range,
 ) -> Result<(), AllocError> {
-    match message_in(work.text, rest) {
+    match message_in(log.text, rest) {
         Some(head) => {
-            let said = said_from(work.text, line, head);
-            take_said(work, has_reports, moment, said)
+            let said = said_from(log.text, line, head);
+            take_said(log, has_reports, moment, said)
         }
         None => Ok(()),
     }
@@ -210,19 +212,19 @@ fn take_message(
 
 /// The next line.
 pub(crate) fn take_line(
-    work: &mut Work<'_>,
+    log: &mut Log<'_>,
     reading: Reading,
     has_reports: bool,
     line: Range,
 ) -> Result<Reading, AllocError> {
-    let text = work.text;
+    let text = log.text;
     if !byte_of(text, line.start).is_ascii_digit() {
         return Ok(reading);
     }
     if let Some((clock, place)) = read_clock(text, line.start) {
         let next = reading.with_clock(clock);
         take_message(
-            work,
+            log,
             has_reports,
             next.moment(),
             line,
@@ -231,7 +233,7 @@ pub(crate) fn take_line(
         return Ok(next);
     }
     if let Some((moment, place)) = read_moment(text, line.start) {
-        take_message(work, has_reports, moment, line, from_place(line, place))?;
+        take_message(log, has_reports, moment, line, from_place(line, place))?;
     }
     Ok(reading)
 }

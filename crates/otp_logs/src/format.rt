@@ -1,12 +1,14 @@
 //! Which program wrote a log.
 
 ghost use Rattle.std.specs.Prelude.{◌≡◌};
-ghost use Rattle.otp_logs.specs.Formats.{behind_time, is_daemon_word, is_elixirs, is_level, is_of_daemon, is_of_elixir, is_otps, is_own_word, is_plain, is_seconds, is_supervisords, log_format, sign_behind, sign_of, sign_of_object};
+ghost use Rattle.otp_logs.specs.Formats.{behind_time, is_daemon_word, is_elixirs, is_level, is_of_daemon, is_of_elixir, is_of_journal, is_otps, is_own_word, is_plain, is_seconds, is_supervisords, is_systemds, log_format, sign_behind, sign_of, sign_of_object};
 ghost use Rattle.otp_logs.specs.Translated.{format_text};
 
 use crate::keys::{message_of, value_of};
 use crate::lines::{behind_line, line_end};
-use crate::times::{behind_clock, behind_moment, fits, is_clock, is_moment};
+use crate::times::{
+    behind_clock, behind_moment, behind_stamp, fits, is_clock, is_moment, is_stamp,
+};
 use crate::words::{begins, behind, behind_bytes, behind_word, has, is_text, strip, word_of};
 
 /// Which program wrote a log, and how.
@@ -17,7 +19,7 @@ pub enum Format {
     /// Elixir's Logger.
     Elixir,
     Supervisord,
-    /// The journal of systemd, as `journalctl -o short-iso` prints it.
+    /// The journal of systemd, as `journalctl` prints it, or `journalctl -o short-iso`.
     Journal,
     /// The journal of systemd, as `journalctl -o json` prints it.
     JournalObjects,
@@ -173,6 +175,22 @@ fn is_of_daemon(words: &[u8]) -> bool
     is_seconds(word_of(words)) && is_daemon_word(word_of(behind_word(words)))
 }
 
+/// Whether systemd says so, behind a time.
+#[tactic(auto, unfolding(crate::specs::Formats::is_systemds))]
+fn is_systemds(text: &[u8]) -> bool
+    ensures { result ≡ is_systemds text.now }
+{
+    has(text, b" systemd[")
+}
+
+/// Whether systemd says so, behind a day without its year.
+#[tactic(auto, unfolding(crate::specs::Formats::is_of_journal))]
+fn is_of_journal(line: &[u8]) -> bool
+    ensures { result ≡ is_of_journal line.now }
+{
+    is_stamp(line) && is_systemds(behind_stamp(line))
+}
+
 /// What a line says behind a date and a time.
 #[tactic(auto, unfolding(crate::specs::Formats::sign_behind))]
 fn sign_behind(text: &[u8]) -> Sign
@@ -183,7 +201,7 @@ fn sign_behind(text: &[u8]) -> Sign
         Sign::Of(Format::Supervisord)
     } else if is_of_daemon(words) {
         Sign::Of(Format::Daemon)
-    } else if has(text, b" systemd[") {
+    } else if is_systemds(text) {
         Sign::Of(Format::Journal)
     } else if is_otps(text) {
         Sign::Of(Format::Otp)
@@ -228,6 +246,8 @@ fn sign_of(line: &[u8]) -> Sign
         sign_behind(behind_moment(line))
     } else if is_clock(line) && is_of_elixir(behind_clock(line)) {
         Sign::Of(Format::Elixir)
+    } else if is_of_journal(line) {
+        Sign::Of(Format::Journal)
     } else {
         Sign::Nothing
     }

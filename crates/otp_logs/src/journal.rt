@@ -1,10 +1,11 @@
-//! What systemd writes of its services into the journal, as `journalctl -o short-iso` and `-o json` print it.
+//! What systemd writes of its services into the journal, as `journalctl` prints it, also with `-o short-iso` and `-o json`.
 
+use crate::log::{Called, Event, Log};
+use crate::moment::{Moment, Zone, read_moment, read_stamp};
+use crate::reason::{write_error, write_signal, write_status};
+use crate::seeking::{from_place, is_at, is_text, place_behind, place_of_bytes, up_to};
+use crate::values::text_of;
 use otp_foreign::{Range, number_in};
-use otp_logged::{
-    Called, Event, Moment, Work, Zone, from_place, is_at, is_text, place_behind, place_of_bytes,
-    read_moment, text_of, up_to, write_error, write_signal, write_status,
-};
 use std::alloc::AllocError;
 
 /// A service's name ends so.
@@ -29,12 +30,12 @@ fn write_reason(
 
 /// The main process of a service has ended: `code=exited, status=1/FAILURE`.
 fn take_exit(
-    work: &mut Work<'_>,
+    log: &mut Log<'_>,
     moment: Moment,
     called: Called,
     words: Range,
 ) -> Result<(), AllocError> {
-    let text = work.text;
+    let text = log.text;
     let Some(code) = part_of(text, words, b"code=", b",") else {
         return Ok(());
     };
@@ -42,14 +43,14 @@ fn take_exit(
         return Ok(());
     };
     let name = name_in(text, from_place(words, status.end.saturating_add(1)));
-    work.reason.clear();
+    log.reason.clear();
     write_reason(
         code.of(text),
         status.of(text),
         name.of(text),
-        &mut work.reason,
+        &mut log.reason,
     )?;
-    work.take(Event::End, moment, called)
+    log.take(Event::End, moment, called)
 }
 
 /// What stands between two texts.
@@ -119,26 +120,26 @@ impl Journal {
     /// A service has ended well: by itself, unless it was being stopped.
     fn end_well(
         &mut self,
-        work: &mut Work<'_>,
+        log: &mut Log<'_>,
         moment: Moment,
         called: Called,
     ) -> Result<(), AllocError> {
-        if self.was_stopping(work.text, called.name) {
+        if self.was_stopping(log.text, called.name) {
             return Ok(());
         }
-        work.reason.clear();
-        work.reason.extend_from_slice(b"normal")?;
-        work.take(Event::End, moment, called)
+        log.reason.clear();
+        log.reason.extend_from_slice(b"normal")?;
+        log.take(Event::End, moment, called)
     }
 
     /// What systemd says at this time.
     fn take_message(
         &mut self,
-        work: &mut Work<'_>,
+        log: &mut Log<'_>,
         moment: Moment,
         message: Range,
     ) -> Result<(), AllocError> {
-        let text = work.text;
+        let text = log.text;
         if is_at(text, message.start, b"Stopping ") {
             return self.begin_stop(text, message);
         }
@@ -152,11 +153,11 @@ impl Journal {
             return if self.is_stopping(text, called.name) {
                 Ok(())
             } else {
-                take_exit(work, moment, called, words)
+                take_exit(log, moment, called, words)
             };
         }
         if is_at(text, words.start, b"Deactivated successfully") {
-            return self.end_well(work, moment, called);
+            return self.end_well(log, moment, called);
         }
         if is_at(text, words.start, b"Failed with result") {
             self.was_stopping(text, called.name);
@@ -164,28 +165,28 @@ impl Journal {
         Ok(())
     }
 
-    /// The next line, as `short-iso` has it.
-    pub(crate) fn take_line(&mut self, work: &mut Work<'_>, line: Range) -> Result<(), AllocError> {
-        let text = work.text;
+    /// The next line of a text.
+    pub(crate) fn take_line(&mut self, log: &mut Log<'_>, line: Range) -> Result<(), AllocError> {
+        let text = log.text;
         let Some(place) = place_behind(text, line, b" systemd[") else {
             return Ok(());
         };
         let Some(message) = place_behind(text, from_place(line, place), b"]: ") else {
             return Ok(());
         };
+        let message = from_place(line, message);
         match read_moment(text, line.start) {
-            Some((moment, _)) => self.take_message(work, moment, from_place(line, message)),
-            None => Ok(()),
+            Some((moment, _)) => self.take_message(log, moment, message),
+            None => match read_stamp(text, line.start) {
+                Some(moment) => self.take_message(log, moment, message),
+                None => Ok(()),
+            },
         }
     }
 
     /// The next line, which is an object of JSON.
-    pub(crate) fn take_object(
-        &mut self,
-        work: &mut Work<'_>,
-        line: Range,
-    ) -> Result<(), AllocError> {
-        let text = work.text;
+    pub(crate) fn take_object(&mut self, log: &mut Log<'_>, line: Range) -> Result<(), AllocError> {
+        let text = log.text;
         let is_own = match text_of(text, line, b"\"SYSLOG_IDENTIFIER\"") {
             Some(name) => is_text(name.of(text), b"systemd"),
             None => false,
@@ -202,7 +203,7 @@ impl Journal {
         match number_in(time.of(text)) {
             Some(micros) if micros < END => {
                 let moment = Moment::at(micros / 1000, Zone::Utc);
-                self.take_message(work, moment, message)
+                self.take_message(log, moment, message)
             }
             _ => Ok(()),
         }

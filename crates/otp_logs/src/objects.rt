@@ -1,10 +1,13 @@
 //! Logs of Erlang or Elixir as their formatters of JSON write them: on each line an object with a time and a message, in which `\n`
 //! stands for the end of a line.
 
-use crate::elixir::{Said, take_said};
+use crate::elixir::{Message, take_said};
+use crate::log::Log;
+use crate::moment::{Moment, read_moment};
 use crate::otp::{self, Report};
+use crate::seeking::{from_place, is_at, place_of_bytes, up_to};
+use crate::values::text_of;
 use otp_foreign::Range;
-use otp_logged::{Moment, Work, from_place, is_at, place_of_bytes, read_moment, text_of, up_to};
 use std::alloc::AllocError;
 
 /// The end of a line of a message.
@@ -50,12 +53,12 @@ fn moment_of(text: &[u8], line: Range) -> Option<Moment> {
 }
 
 /// A report of several lines.
-fn take_report(work: &mut Work<'_>, moment: Moment, message: Range) -> Result<(), AllocError> {
-    let text = work.text;
+fn take_report(log: &mut Log<'_>, moment: Moment, message: Range) -> Result<(), AllocError> {
+    let text = log.text;
     let mut report = Report::begun(moment);
     let mut part = part_from(text, message, message.start);
     for _ in message.start..message.end {
-        report = otp::take_inner(work, report, part)?;
+        report = otp::take_inner(log, report, part)?;
         match part_behind(text, message, part) {
             Some(next) => part = next,
             None => return Ok(()),
@@ -65,14 +68,14 @@ fn take_report(work: &mut Work<'_>, moment: Moment, message: Range) -> Result<()
 }
 
 /// What Elixir's Logger says, by the first lines of the message.
-fn said_in(text: &[u8], message: Range) -> Said {
+fn said_in(text: &[u8], message: Range) -> Message {
     let head = part_from(text, message, message.start);
     let reason = part_behind(text, message, head);
     let raised = match reason {
         Some(part) => part_behind(text, message, part),
         None => None,
     };
-    Said {
+    Message {
         head,
         reason,
         raised,
@@ -81,32 +84,32 @@ fn said_in(text: &[u8], message: Range) -> Said {
 
 /// What a message says.
 fn take_message(
-    work: &mut Work<'_>,
+    log: &mut Log<'_>,
     has_reports: bool,
     moment: Moment,
     message: Range,
 ) -> Result<(), AllocError> {
-    let text = work.text;
+    let text = log.text;
     if is_at(text, message.start, b"Child ") || is_at(text, message.start, b"GenServer ") {
-        return take_said(work, has_reports, moment, said_in(text, message));
+        return take_said(log, has_reports, moment, said_in(text, message));
     }
     if is_at(text, message.start, b" ") {
-        return take_report(work, moment, message);
+        return take_report(log, moment, message);
     }
-    otp::take_single(work, moment, message)
+    otp::take_single(log, moment, message)
 }
 
 /// The next line. Where supervisors report, what processes say themselves would be told twice.
 pub(crate) fn take_object(
-    work: &mut Work<'_>,
+    log: &mut Log<'_>,
     has_reports: bool,
     line: Range,
 ) -> Result<(), AllocError> {
-    let Some(message) = message_of(work.text, line) else {
+    let Some(message) = message_of(log.text, line) else {
         return Ok(());
     };
-    match moment_of(work.text, line) {
-        Some(moment) => take_message(work, has_reports, moment, message),
+    match moment_of(log.text, line) {
+        Some(moment) => take_message(log, has_reports, moment, message),
         None => Ok(()),
     }
 }

@@ -1,10 +1,10 @@
 //! Reports of supervisors as OTP's logger writes them, on several lines or on one.
 
+use crate::log::{Called, Event, Log};
+use crate::moment::{Moment, read_moment, read_report_moment};
+use crate::reason::{write_error, write_term};
+use crate::seeking::{from_place, is_at, is_text, place_behind, place_of_bytes, stripped, up_to};
 use otp_foreign::{Range, byte_of, trimmed};
-use otp_logged::{
-    Called, Event, Moment, Work, from_place, is_at, is_text, place_behind, place_of_bytes,
-    read_moment, read_report_moment, stripped, up_to, write_error, write_term,
-};
 use std::alloc::AllocError;
 
 /// What a report is about.
@@ -156,49 +156,49 @@ fn id_in(text: &[u8], line: Range) -> Option<Range> {
 
 /// What a report says of a child.
 fn take_report(
-    work: &mut Work<'_>,
+    log: &mut Log<'_>,
     moment: Moment,
     context: Context,
     called: Called,
     reason: Range,
 ) -> Result<(), AllocError> {
-    work.reason.clear();
+    log.reason.clear();
     match context {
         Context::Other => Ok(()),
-        Context::Up => work.take(Event::Up, moment, called),
+        Context::Up => log.take(Event::Up, moment, called),
         Context::End => {
-            write_term(work.text, reason, &mut work.reason)?;
-            work.take(Event::End, moment, called)
+            write_term(log.text, reason, &mut log.reason)?;
+            log.take(Event::End, moment, called)
         }
         Context::Failed => {
-            write_error(b"", reason.of(work.text), &mut work.reason)?;
-            work.take(Event::End, moment, called)
+            write_error(b"", reason.of(log.text), &mut log.reason)?;
+            log.take(Event::End, moment, called)
         }
     }
 }
 
 /// A line of a report that goes on.
 pub(crate) fn take_inner(
-    work: &mut Work<'_>,
+    log: &mut Log<'_>,
     report: Report,
     line: Range,
 ) -> Result<Report, AllocError> {
     let Some(moment) = report.moment else {
         return Ok(report);
     };
-    let inner = stripped(work.text, line);
-    let next = report.with_line(work.text, inner);
+    let inner = stripped(log.text, line);
+    let next = report.with_line(log.text, inner);
     if !next.wants_id {
         return Ok(next);
     }
-    let Some(name) = id_in(work.text, inner) else {
+    let Some(name) = id_in(log.text, inner) else {
         return Ok(next);
     };
     let called = Called {
         supervisor: next.supervisor,
         name,
     };
-    take_report(work, moment, next.context, called, next.reason)?;
+    take_report(log, moment, next.context, called, next.reason)?;
     Ok(Report {
         wants_id: false,
         ..next
@@ -217,11 +217,11 @@ fn part_of(text: &[u8], line: Range, front: &[u8], back: &[u8]) -> Option<Range>
 
 /// A report on one line, from its first word on.
 pub(crate) fn take_single(
-    work: &mut Work<'_>,
+    log: &mut Log<'_>,
     moment: Moment,
     line: Range,
 ) -> Result<(), AllocError> {
-    let text = work.text;
+    let text = log.text;
     let Some(supervisor) = part_of(text, line, b"upervisor: ", b". ") else {
         return Ok(());
     };
@@ -245,16 +245,16 @@ pub(crate) fn take_single(
         name,
     };
     let reason = part_of(text, rest, b"Reason: ", b". Offender: ").unwrap_or(NOWHERE);
-    take_report(work, moment, context, called, reason)
+    take_report(log, moment, context, called, reason)
 }
 
 /// The next line.
 pub(crate) fn take_line(
-    work: &mut Work<'_>,
+    log: &mut Log<'_>,
     report: Report,
     line: Range,
 ) -> Result<Report, AllocError> {
-    let text = work.text;
+    let text = log.text;
     match byte_of(text, line.start) {
         b'=' => match place_behind(text, line, b"==== ") {
             Some(place) => match read_report_moment(text, place) {
@@ -265,12 +265,12 @@ pub(crate) fn take_line(
         },
         b'0'..=b'9' => match read_moment(text, line.start) {
             Some((moment, place)) => {
-                take_single(work, moment, from_place(line, place))?;
+                take_single(log, moment, from_place(line, place))?;
                 Ok(Report::begun(moment))
             }
             None => Ok(report),
         },
-        b' ' => take_inner(work, report, line),
+        b' ' => take_inner(log, report, line),
         _ => Ok(report),
     }
 }

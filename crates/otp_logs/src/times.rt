@@ -1,7 +1,7 @@
 //! Times at the beginning of a text, by their form alone.
 
 ghost use Rattle.std.specs.Prelude.{◌≡◌, ◌<◌, IfSome, length, not, position};
-ghost use Rattle.otp_logs.specs.Times.{behind_clock, behind_digits, behind_fraction, behind_moment, behind_zone, fits, fits_byte, is_clock, is_digit, is_moment};
+ghost use Rattle.otp_logs.specs.Times.{behind_clock, behind_digits, behind_fraction, behind_moment, behind_stamp, behind_zone, fits, fits_byte, is_clock, is_digit, is_moment, is_month, is_stamp};
 
 use crate::words::{begins, behind_bytes, from};
 
@@ -94,6 +94,42 @@ pub(crate) fn behind_clock(text: &[u8]) -> &[u8]
     ensures { result.now ≡ behind_clock text.now }
 {
     behind_fraction(behind_bytes(text, 8))
+}
+
+/// Whether a text begins with the first letters of a month.
+#[tactic(auto, unfolding(crate::specs::Times::is_month))]
+fn is_month(text: &[u8]) -> bool
+    ensures { result ≡ is_month text.now }
+{
+    begins(text, b"Jan")
+        || begins(text, b"Feb")
+        || begins(text, b"Mar")
+        || begins(text, b"Apr")
+        || begins(text, b"May")
+        || begins(text, b"Jun")
+        || begins(text, b"Jul")
+        || begins(text, b"Aug")
+        || begins(text, b"Sep")
+        || begins(text, b"Oct")
+        || begins(text, b"Nov")
+        || begins(text, b"Dec")
+}
+
+/// Whether a text begins with a day without its year and a time of the day, as `Nov 26 20:49:00`.
+#[tactic(auto, unfolding(crate::specs::Times::is_stamp))]
+pub(crate) fn is_stamp(text: &[u8]) -> bool
+    ensures { result ≡ is_stamp text.now }
+{
+    let behind = behind_bytes(text, 3);
+    is_month(text) && (fits(behind, b" 00 00:00:00") || fits(behind, b"  0 00:00:00"))
+}
+
+/// What stands behind a day without its year and a time of the day.
+#[tactic(auto, unfolding(crate::specs::Times::behind_stamp))]
+pub(crate) fn behind_stamp(text: &[u8]) -> &[u8]
+    ensures { result.now ≡ behind_stamp text.now }
+{
+    behind_fraction(behind_bytes(text, 15))
 }
 
 /// Whether a text begins with a date and a time of the day, as `2026-11-26T20:49:00.125Z`, also with a space for the T.

@@ -6,12 +6,15 @@ ghost use Rattle.otp_logs.specs.Translated.{IsTranslated, SaysFormat, StandsFor,
 
 use crate::daemon::{self, Daemon};
 use crate::format::{Format, format_of, is_plain};
+use crate::ids::Ids;
 use crate::journal::Journal;
+use crate::known::Known;
 use crate::lines::{append_line, behind_line, line_end, put_end};
+use crate::log::Log;
+use crate::seeking::{line_behind, place_of_bytes};
 use crate::{elixir, objects, otp, supervisord};
 use otp_file::TreeSpec;
 use otp_foreign::{Range, line_at};
-use otp_logged::{Ids, Known, Work, line_behind, place_of_bytes};
 use std::alloc::{AllocError, Global};
 
 /// How a log is read.
@@ -65,22 +68,22 @@ impl Reader {
     }
 
     /// The next line.
-    fn take(&mut self, work: &mut Work<'_>, line: Range) -> Result<(), AllocError> {
+    fn take(&mut self, log: &mut Log<'_>, line: Range) -> Result<(), AllocError> {
         match self.format {
             Format::Otp => {
-                self.report = otp::take_line(work, self.report, line)?;
+                self.report = otp::take_line(log, self.report, line)?;
                 Ok(())
             }
             Format::Elixir => {
-                self.elixir = elixir::take_line(work, self.elixir, self.has_reports, line)?;
+                self.elixir = elixir::take_line(log, self.elixir, self.has_reports, line)?;
                 Ok(())
             }
-            Format::Supervisord => supervisord::take_line(work, line),
-            Format::Journal => self.journal.take_line(work, line),
-            Format::JournalObjects => self.journal.take_object(work, line),
-            Format::Objects => objects::take_object(work, self.has_reports, line),
-            Format::Daemon => self.daemon.take_line(work, line),
-            Format::DaemonObjects => self.daemon.take_object(work, line),
+            Format::Supervisord => supervisord::take_line(log, line),
+            Format::Journal => self.journal.take_line(log, line),
+            Format::JournalObjects => self.journal.take_object(log, line),
+            Format::Objects => objects::take_object(log, self.has_reports, line),
+            Format::Daemon => self.daemon.take_line(log, line),
+            Format::DaemonObjects => self.daemon.take_object(log, line),
         }
     }
 }
@@ -121,33 +124,33 @@ fn begin_of(format: Format, text: &[u8]) -> usize {
 /// Leaves in its place what stands for a line.
 fn take_line(
     reader: &mut Reader,
-    work: &mut Work<'_>,
+    log: &mut Log<'_>,
     line: Range,
     is_read: bool,
     keeps_others: bool,
 ) -> Result<(), AllocError> {
-    work.is_put = false;
-    work.line.clear();
+    log.is_put = false;
+    log.line.clear();
     if is_read {
-        reader.take(work, line)?;
+        reader.take(log, line)?;
     }
-    if !work.is_put {
-        let bytes = line.of(work.text);
+    if !log.is_put {
+        let bytes = line.of(log.text);
         if is_plain(bytes) {
             // A replay would play it, and another program's log says what happened otherwise.
-            work.count_plain();
+            log.count_plain();
         } else if keeps_others {
-            work.line.extend_from_slice(bytes)?;
+            log.line.extend_from_slice(bytes)?;
         }
     }
-    work.number = work.number.saturating_add(1);
+    log.number = log.number.saturating_add(1);
     Ok(())
 }
 
 /// Writes what stands for a line, which isn't ended.
 fn put_line(
     reader: &mut Reader,
-    work: &mut Work<'_>,
+    log: &mut Log<'_>,
     line: Range,
     is_read: bool,
     keeps_others: bool,
@@ -155,14 +158,14 @@ fn put_line(
 ) -> Result<(), AllocError>
     ensures { OnOk result (ends_in out.new.items ≡ ends_in out.old.items) }
 {
-    take_line(reader, work, line, is_read, keeps_others)?;
-    append_line(work.line.as_slice(), out)
+    take_line(reader, log, line, is_read, keeps_others)?;
+    append_line(log.line.as_slice(), out)
 }
 
 /// Writes what stands for a line that is ended.
 fn put_ended(
     reader: &mut Reader,
-    work: &mut Work<'_>,
+    log: &mut Log<'_>,
     line: Range,
     is_read: bool,
     keeps_others: bool,
@@ -170,7 +173,7 @@ fn put_ended(
 ) -> Result<(), AllocError>
     ensures { OnOk result (ends_in out.new.items ≡ ends_in out.old.items + 1) }
 {
-    put_line(reader, work, line, is_read, keeps_others, out)?;
+    put_line(reader, log, line, is_read, keeps_others, out)?;
     put_end(out)?;
     Ok(())
 }
@@ -178,7 +181,7 @@ fn put_ended(
 /// Writes what stands for all lines of a text, of which those from this place on are read.
 fn put_lines(
     reader: &mut Reader,
-    work: &mut Work<'_>,
+    log: &mut Log<'_>,
     text: &[u8],
     begin: usize,
     keeps_others: bool,
@@ -193,7 +196,7 @@ fn put_lines(
             start,
             end: start.saturating_add(end),
         };
-        put_ended(reader, work, line, start >= begin, keeps_others, out)?;
+        put_ended(reader, log, line, start >= begin, keeps_others, out)?;
         start = line.end.saturating_add(1);
         rest = behind_line(rest, end);
     }
@@ -201,7 +204,7 @@ fn put_lines(
         start,
         end: text.len(),
     };
-    put_line(reader, work, line, start >= begin, keeps_others, out)?;
+    put_line(reader, log, line, start >= begin, keeps_others, out)?;
     Ok(())
 }
 
@@ -210,7 +213,7 @@ fn put_lines(
 fn make_lines(
     alloc: Global,
     reader: &mut Reader,
-    work: &mut Work<'_>,
+    log: &mut Log<'_>,
     text: &[u8],
     begin: usize,
     keeps_others: bool,
@@ -218,7 +221,7 @@ fn make_lines(
     ensures { IfOk result (λ lines. StandsFor lines.items text.now) }
 {
     let mut lines = Vec::new(alloc);
-    put_lines(reader, work, text, begin, keeps_others, &mut lines)?;
+    put_lines(reader, log, text, begin, keeps_others, &mut lines)?;
     Ok(lines)
 }
 
@@ -254,7 +257,7 @@ fn notes_of(
 /// Notes on a log that was read.
 fn make_notes(
     alloc: Global,
-    work: &Work<'_>,
+    log: &Log<'_>,
     name: &str,
     is_last: bool,
     format: Format,
@@ -262,7 +265,7 @@ fn make_notes(
     ensures { IfOk result (λ notes. SaysFormat name.now format notes.items) }
 {
     let mut counts = Vec::new(alloc);
-    work.tell(&mut counts)?;
+    log.tell(&mut counts)?;
     let notes = notes_of(alloc, name, is_last, format, counts.as_slice())?;
     drop(counts);
     Ok(notes)
@@ -286,7 +289,7 @@ fn read_log(
     };
     let has_paths = matches!(format, Format::Daemon | Format::DaemonObjects);
     let begin = begin_of(format, text);
-    let mut work = Work::new(
+    let mut log = Log::new(
         alloc,
         words.name,
         text,
@@ -299,18 +302,18 @@ fn read_log(
     let made = make_lines(
         alloc,
         &mut reader,
-        &mut work,
+        &mut log,
         text,
         begin,
         words.keeps_others,
     );
     drop(reader);
     let Ok(lines) = made else {
-        drop(work);
+        drop(log);
         return Err(AllocError);
     };
-    let told = make_notes(alloc, &work, words.name, begin > 0, format);
-    drop(work);
+    let told = make_notes(alloc, &log, words.name, begin > 0, format);
+    drop(log);
     let Ok(notes) = told else {
         drop(lines);
         return Err(AllocError);

@@ -2,8 +2,8 @@
 
 ghost use Rattle.std.specs.Prelude.{◌≡◌, ◌≤◌, length, vec_capacity};
 
+use crate::decisions::counts::list_lines;
 use crate::machine::Machine;
-use otp_decisions::counts::list_lines;
 use otp_rules::{ChildLines, CountsNow, Effect, Reply};
 use std::mem;
 

@@ -3,10 +3,10 @@
 ghost use Rattle.std.specs.Prelude.{◌≡◌, ◌<◌, ◌≤◌, Some, length, slice_get};
 ghost use Rattle.std.specs.VecDeque.{deque_capacity};
 
-use crate::machine::Machine;
-use otp_decisions::restarts::{
+use crate::decisions::restarts::{
     affected, ends_by_significance, is_restarted, list_dues, list_running,
 };
+use crate::machine::Machine;
 use otp_reason::{Note, Reason};
 use otp_rules::{Ending, Item, Sequel, Waiting};
 use otp_table::{Row, RowState};

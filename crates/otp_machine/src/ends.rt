@@ -4,8 +4,8 @@ ghost use Rattle.std.specs.Prelude.{◌≡◌, ◌+◌, ◌<◌, ◌≤◌, ◌+
 ghost use Rattle.std.specs.VecDeque.{deque_len};
 ghost use Rattle.otp_rules.specs.Ends.{init_failed};
 
+use crate::decisions::state::own_number;
 use crate::machine::Machine;
-use otp_decisions::state::own_number;
 use otp_reason::{Name, Reason, Text};
 use otp_rules::{Cause, Effect, Ending, Phase, Stamps, SupEnd};
 use std::collections::VecDeque;

@@ -4,10 +4,10 @@ ghost use Rattle.std.specs.Prelude.{◌≡◌, ◌+◌, ◌<◌, ◌≤◌, IsTr
 ghost use Rattle.std.specs.VecDeque.{deque_capacity};
 ghost use Rattle.otp_machine.specs.declared.machine.TheConstants.{ROOM_LIMIT};
 
+use crate::stores::answers::Answers;
+use crate::stores::waits::Waits;
 use otp_rules::{ChildLine, Due, Effect, Phase, Reply, Sequel, SupEnd, Waiting};
 use otp_spec::{AutoShutdown, ChildSpec, Strategy, SupFlags};
-use otp_stores::answers::Answers;
-use otp_stores::waits::Waits;
 use otp_table::Rows;
 use otp_window::Window;
 use std::alloc::AllocError;

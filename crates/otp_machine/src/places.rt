@@ -2,8 +2,8 @@
 
 ghost use Rattle.std.specs.Prelude.{◌≡◌, ◌<◌, ◌≤◌, Some, length, slice_get};
 
+use crate::decisions::places::is_removed;
 use crate::machine::Machine;
-use otp_decisions::places::is_removed;
 use otp_table::RowState;
 
 impl Machine {

@@ -3,10 +3,10 @@
 ghost use Rattle.std.specs.Prelude.{◌≡◌, ◌≤◌, ◌&&◌, IsTrue, MatchOption, is_some, not};
 ghost use Rattle.otp_spec.specs.declared.limits.TheConstants.{MAX_READING};
 
+use crate::decisions::state::is_over;
+use crate::decisions::step::{kill_late, list_children, order_kills};
 use crate::machine::Machine;
 use crate::numbers::Numbers;
-use otp_decisions::state::is_over;
-use otp_decisions::step::{kill_late, list_children, order_kills};
 use otp_reason::Note;
 use otp_rules::laws::number_starts_work;
 use otp_rules::{Call, Ending, Item, Kind, Phase, Reply, Sequel, Waiting};

@@ -4,9 +4,9 @@ ghost use Rattle.std.specs.Prelude.{◌≡◌, ◌+◌, ◌<◌, ◌≤◌, Some
 ghost use Rattle.otp_rules.specs.Stops.{is_exit};
 ghost use Rattle.otp_spec.specs.declared.limits.TheConstants.{MAX_READING};
 
+use crate::decisions::restarts::list_running;
+use crate::decisions::stops::{stop_order, told};
 use crate::machine::Machine;
-use otp_decisions::restarts::list_running;
-use otp_decisions::stops::{stop_order, told};
 use otp_rules::{Ending, Sequel};
 use std::mem;
 

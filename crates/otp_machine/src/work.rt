@@ -2,9 +2,9 @@
 
 ghost use Rattle.std.specs.Prelude.{◌≡◌, ◌&&◌, IsTrue, MatchOption, is_some, reverse, unwrap_or};
 
+use crate::decisions::starts::find_due;
 use crate::machine::Machine;
 use crate::numbers::Numbers;
-use otp_decisions::starts::find_due;
 use otp_rules::{Effect, Reply, Sequel};
 use otp_table::RowState;
 

@@ -1,4 +1,5 @@
-pub mod Walk
+pub mod Counted
 pub mod Going
 pub mod Needed
 pub mod Stored
+pub mod Walk

@@ -1,3 +1,4 @@
 pub mod Begun
-pub mod Ups
+pub mod Order
 pub mod Restarted
+pub mod Ups

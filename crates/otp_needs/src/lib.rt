@@ -4,6 +4,7 @@
 
 pub mod asking;
 pub(crate) mod needs;
+pub mod order;
 pub(crate) mod waited;
 
 pub use asking::NeedsNumber;

@@ -25,9 +25,9 @@ ghost use Rattle.otp_table.specs.declared.row.Row.{Row};
 ghost use Rattle.otp_table.specs.declared.row.RowState.TheVariants.{Up};
 
 use crate::waited::{Span, has_other_awaited, have_ended, have_ended_with, restart_goes_on};
-use otp_decisions::restarts::{affected, is_restarted};
-use otp_decisions::state::is_over;
 use otp_machine::Machine;
+use otp_machine::decisions::restarts::{affected, is_restarted};
+use otp_machine::decisions::state::is_over;
 use otp_reason::{Name, Note, Reason};
 use otp_rules::laws::number_starts_work;
 use otp_rules::{Call, Item, Kind, Sequel, Waiting};

@@ -16,9 +16,9 @@ ghost use Rattle.otp_needs.specs.Begun.{left};
 ghost use Rattle.otp_needs.specs.Ups.{ends_counted, has_ends, passes};
 ghost use Rattle.otp_rules.specs.Fit.{runs_as};
 
-use otp_decisions::places::is_temporary;
-use otp_decisions::stops::is_exit;
-use otp_stores::waits::Waits;
+use otp_machine::decisions::places::is_temporary;
+use otp_machine::decisions::stops::is_exit;
+use otp_machine::stores::waits::Waits;
 use otp_table::{Row, RowState};
 
 /// Whether an answer of one of the children is awaited.

@@ -8,10 +8,10 @@ use Rattle.otp_costs.specs.declared.alike.Grain.{Grain}
 use Rattle.otp_costs.specs.declared.pick.Pick.{Pick}
 use Rattle.otp_costs.specs.declared.rows.Row.{Row}
 use Rattle.otp_json.specs.Values.{key_text, text_member}
-use Rattle.otp_limits.specs.declared.fate.Fate.{Fate}
-use Rattle.otp_limits.specs.declared.fate.Fate.TheVariants as fate
-use Rattle.otp_limits.specs.declared.steady.Steady.{Steady}
-use Rattle.otp_limits.specs.declared.steady.Steady.TheVariants as steady
+use Rattle.otp_costs.specs.declared.limits.fate.Fate.{Fate}
+use Rattle.otp_costs.specs.declared.limits.fate.Fate.TheVariants as fate
+use Rattle.otp_costs.specs.declared.limits.steady.Steady.{Steady}
+use Rattle.otp_costs.specs.declared.limits.steady.Steady.TheVariants as steady
 use Rattle.otp_objects.specs.Names.{names_text, paths_text}
 
 -- null for a child that never ran, and another text for one that runs no more
@@ -30,7 +30,7 @@ steady_value steady.Always = codes "\"any\""
 steady_value (steady.Apart gap) = decimal gap
 steady_value steady.Never = codes "\"none\""
 
--- the same of a child that fares so: null of one that never ran
+-- how far apart crashes of a child must be that fares so: null of one that never ran
 unfoldable pub steady_text : Fate → Steady → List ℕ
 steady_text fate.Survived steady = steady_value steady
 steady_text (fate.Ended _) steady = steady_value steady
@@ -46,11 +46,11 @@ head_text row =
 unfoldable pub interval_text : Row → List ℕ
 interval_text row = key_text (codes ", ") (codes "interval") ++ steady_text row.own.burst row.own.steady
 
--- the same by whole seconds
+-- how far apart crashes must be, by whole seconds
 unfoldable pub otp_text : Row → List ℕ
 otp_text row = key_text (codes ", ") (codes "otp_needs") ++ steady_text row.own.burst row.own.seconds
 
--- and by each clock
+-- how far apart crashes must be, by each clock
 unfoldable pub clocks_text : Row → List ℕ
 clocks_text row = interval_text row ++ otp_text row
 
@@ -60,7 +60,7 @@ named_text row =
     key_text (codes ", ") (codes "stops") ++ names_text row.path row.own.stops
     ++ key_text (codes ", ") (codes "starts") ++ names_text row.path row.own.starts
 
--- and how many processes these are, with those below
+-- what a crash stops and starts again, and how many processes these are, with those below
 unfoldable pub affected_text : Row → List ℕ
 affected_text row =
     named_text row
@@ -77,7 +77,7 @@ fall_text row =
 unfoldable pub row_text : Row → List ℕ
 row_text row = head_text row ++ clocks_text row ++ affected_text row ++ fall_text row ++ codes "}"
 
--- the same behind another
+-- the object of a row behind another
 unfoldable pub next_row : Row → List ℕ
 next_row row = codes ", " ++ row_text row
 

@@ -9,7 +9,7 @@ use Rattle.otp_reason.specs.declared.name.Name.{Name}
 unfoldable pub name_text : List ℕ → Name → List ℕ
 name_text path name = json_text (below path name)
 
--- the same behind another
+-- the name of a child behind another
 unfoldable pub next_name : List ℕ → Name → List ℕ
 next_name path name = codes ", " ++ name_text path name
 

@@ -19,7 +19,7 @@ time_members from until = optional_member (codes ", ") (codes "from") from ++ op
 unfoldable pub stop_text : Option ℕ → Stop → List ℕ
 stop_text from stop = child_members stop ++ time_members from (later from stop.shutdown) ++ codes "}"
 
--- the same behind another
+-- the object of a stop behind another
 unfoldable pub next_stop : Option ℕ → Stop → List ℕ
 next_stop from stop = codes ", " ++ stop_text from stop
 

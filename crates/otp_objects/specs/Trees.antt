@@ -1,10 +1,9 @@
 -- A tree as an object of JSON: the table that its file says, with the keys that the file leaves out (own).
-use Prim.Native.Nat.{zero, suc}
 use Rattle.std.specs.Prelude.{◌≡◌, ℕ, ◌+◌, ◌==◌, List, [], ◌∷◌, ◌++◌, Option, Some, None, codes, if◌then◌else◌}
-use Rattle.std.specs.List.{flat_map}
-use Rattle.otp_file.specs.Trees.{Tree, tables_of}
+use Rattle.otp_file.specs.Trees.{Tree}
 use Rattle.otp_file.specs.declared.limits.TheConstants.{MAX_DEPTH}
 use Rattle.otp_json.specs.Values.{json_text, key_text, number_member, text_member}
+use Rattle.otp_file.specs.Nested.{IsPiece, Written, sub_at}
 use Rattle.otp_reason.specs.Names.{name_bytes}
 use Rattle.otp_reason.specs.declared.name.Name.{Name}
 use Rattle.otp_spec.specs.Words.{auto_shutdown_word, restart_word, strategy_word, type_word}
@@ -17,7 +16,7 @@ use Rattle.otp_objects.specs.Values.{bool_member, shutdown_member, word_member}
 unfoldable pub name_value : Name → List ℕ
 name_value name = json_text (name_bytes name)
 
--- the same behind another
+-- a value behind another
 unfoldable pub next_value : Name → List ℕ
 next_value name = codes ", " ++ name_value name
 
@@ -62,12 +61,6 @@ child_text spec sub = child_head spec ++ sub_member sub ++ codes "}"
 unfoldable pub comma_at : ℕ → List ℕ
 comma_at place = if place == 0 then [] else codes ", "
 
--- the object of the tree of the child at this place, if it has one
-abbrev pub sub_at : ℕ → List ℕ → List (List ℕ) → Option (List ℕ)
-sub_at place [] each = None
-sub_at place (other ∷ others) [] = None
-sub_at place (other ∷ others) (piece ∷ each) = if other == place then Some piece else sub_at place others each
-
 -- these children, of which the first stands at this place
 abbrev pub children_text : List ℕ → List (List ℕ) → ℕ → List ChildSpec → List ℕ
 children_text nested each place [] = []
@@ -87,20 +80,9 @@ unfoldable pub table_text : SupFlags → List ChildSpec → List ℕ → List (L
 table_text flags specs nested each =
     flags_members flags ++ key_text (codes ", ") (codes "child") ++ codes "[" ++ children_text nested each 0 specs ++ codes "]}"
 
--- the objects of each of these trees, those of the children at these places
-abbrev pub AreSubs : (Tree → List ℕ → Type 0) → List ℕ → List Tree → List (List ℕ) → Type 0
-AreSubs Is [] [] [] = Unit {0}
-AreSubs Is (place ∷ places) (tree ∷ trees) (piece ∷ each) = Is tree piece × AreSubs Is places trees each
-AreSubs Is places trees each = ⊥
-
--- the object of a tree of so many levels at the most
-abbrev pub IsTreeObject : ℕ → Tree → List ℕ → Type 0
-IsTreeObject zero tree piece = ⊥
-IsTreeObject (suc levels) tree piece =
-    (trees : List Tree) × (each : List (List ℕ))
-    × (flat_map tables_of trees ≡ tree.below)
-    × AreSubs (IsTreeObject levels) tree.nested trees each
-    × (piece ≡ table_text tree.flags tree.specs tree.nested each)
+-- the object of a supervisor, wherever it stands
+abbrev pub object_at : Written
+object_at path flags specs nested each = table_text flags specs nested each
 
 -- the whole: the file, and its tree, of which this is the object
 unfoldable pub tree_object : List ℕ → List ℕ → List ℕ
@@ -109,4 +91,4 @@ tree_object name piece = text_member (codes "{") (codes "file") name ++ key_text
 -- a tree is told as an object
 abbrev pub TellsTree : List ℕ → Tree → List ℕ → List ℕ → Type 0
 TellsTree name tree before after =
-    (piece : List ℕ) × (IsTreeObject MAX_DEPTH tree piece × (after ≡ before ++ tree_object name piece))
+    (piece : List ℕ) × (IsPiece object_at MAX_DEPTH [] tree piece × (after ≡ before ++ tree_object name piece))

@@ -3,12 +3,15 @@
 
 mod limits;
 mod names;
-mod piece;
+mod rooted;
 mod stops;
+mod suggested;
 mod table;
 mod tree;
 mod values;
 
 pub use limits::write_limits_object;
+pub use rooted::write_root_object;
 pub use stops::write_stops_object;
+pub use suggested::write_suggestion_object;
 pub use tree::write_tree_object;

@@ -5,10 +5,10 @@ ghost use Rattle.std.specs.List.{flat_map};
 ghost use Rattle.otp_objects.specs.Limits.{named_text, TellsObject, TellsRows, affected_text, clocks_text, fall_text, fate_text, gone_value, head_text, interval_text, is_none, limits_text, next_row, otp_text, row_text, rows_text, steady_text, steady_value};
 
 use crate::names::{write_names, write_paths};
+use otp_costs::limits::{Fate, Steady};
 use otp_costs::{Grain, Pick, Row, find_rows};
 use otp_file::TreeSpec;
 use otp_json::{put_key, put_text};
-use otp_limits::{Fate, Steady};
 use otp_text::write_number;
 use otp_trial::Halt;
 use std::alloc::{AllocError, Global};

@@ -2,22 +2,13 @@
 
 ghost use Rattle.std.specs.Prelude.{◌≡◌, ◌++◌, OnOk};
 ghost use Rattle.std.specs.List.{flat_map};
-ghost use Rattle.otp_costs.specs.Groups.{below};
 ghost use Rattle.otp_objects.specs.Names.{name_text, names_text, next_name, next_path, paths_text};
 
+use otp_costs::limits::Path;
+use otp_costs::put_below;
 use otp_json::put_json_text;
-use otp_limits::Path;
 use otp_reason::Name;
 use std::alloc::AllocError;
-
-/// The name of a child, behind the path of its supervisor's children.
-fn put_below(path: &[u8], name: &Name, word: &mut Vec<u8>) -> Result<(), AllocError>
-    ensures { OnOk result (word.new.items ≡ below path.now name.now) }
-{
-    word.clear();
-    word.extend_from_slice(path)?;
-    word.extend_from_slice(name.as_bytes())
-}
 
 /// Appends the name of a child. The word is a place for a text.
 #[tactic(auto, unfolding(crate::specs::Names::name_text))]

@@ -1,10 +1,11 @@
 //! The table of a supervisor as an object.
 
 ghost use Rattle.std.specs.Prelude.{◌≡◌, ◌+◌, ◌≤◌, ◌++◌, OnOk, length, option_map};
-ghost use Rattle.otp_objects.specs.Trees.{child_head, child_text, children_text, comma_at, flags_members, kind_members, modules_member, modules_value, name_members, name_value, next_value, sub_at, sub_member, sub_value, table_text};
+ghost use Rattle.otp_file.specs.Nested.{sub_at};
+ghost use Rattle.otp_objects.specs.Trees.{child_head, child_text, children_text, comma_at, flags_members, kind_members, modules_member, modules_value, name_members, name_value, next_value, sub_member, sub_value, table_text};
 
-use crate::piece::Piece;
 use crate::values::{put_bool, put_shutdown, put_word};
+use otp_file::nested::{NestedText, TableWriter, sub_at};
 use otp_json::{put_json_text, put_key, put_number, put_text};
 use otp_reason::Name;
 use otp_spec::{ChildSpec, Modules, SupFlags};
@@ -105,7 +106,7 @@ fn put_head(spec: &ChildSpec, out: &mut Vec<u8>) -> Result<(), AllocError>
 
 /// Appends the object of the tree of a child, or `null` where it has none.
 #[tactic(auto, unfolding(crate::specs::Trees::sub_value))]
-fn write_sub(sub: Option<&Piece>, out: &mut Vec<u8>) -> Result<(), AllocError>
+fn write_sub(sub: Option<&NestedText>, out: &mut Vec<u8>) -> Result<(), AllocError>
     ensures { OnOk result (out.new.items ≡ out.old.items ++ sub_value (option_map (λ piece. piece.now) sub.entry)) }
 {
     match sub {
@@ -116,7 +117,7 @@ fn write_sub(sub: Option<&Piece>, out: &mut Vec<u8>) -> Result<(), AllocError>
 
 /// Appends the member that is the tree of a child.
 #[tactic(auto, unfolding(crate::specs::Trees::sub_member))]
-fn put_sub(sub: Option<&Piece>, out: &mut Vec<u8>) -> Result<(), AllocError>
+fn put_sub(sub: Option<&NestedText>, out: &mut Vec<u8>) -> Result<(), AllocError>
     ensures { OnOk result (out.new.items ≡ out.old.items ++ sub_member (option_map (λ piece. piece.now) sub.entry)) }
 {
     put_key(b", ", b"tree", out)?;
@@ -125,7 +126,11 @@ fn put_sub(sub: Option<&Piece>, out: &mut Vec<u8>) -> Result<(), AllocError>
 
 /// Appends the object of a child.
 #[tactic(auto, unfolding(crate::specs::Trees::child_text))]
-fn put_child(spec: &ChildSpec, sub: Option<&Piece>, out: &mut Vec<u8>) -> Result<(), AllocError>
+fn put_child(
+    spec: &ChildSpec,
+    sub: Option<&NestedText>,
+    out: &mut Vec<u8>,
+) -> Result<(), AllocError>
     ensures { OnOk result (out.new.items ≡ out.old.items ++ child_text spec.now (option_map (λ piece. piece.now) sub.entry)) }
 {
     put_head(spec, out)?;
@@ -145,27 +150,10 @@ fn put_comma(place: usize, out: &mut Vec<u8>) -> Result<(), AllocError>
     }
 }
 
-/// The object of the tree of the child at this place, if it has one.
-fn sub_at<'e>(place: usize, nested: &[usize], each: &'e [Piece]) -> Option<&'e Piece>
-    ensures { option_map (λ piece. piece.now) result ≡ sub_at place nested.now each.now }
-{
-    let [other, others @ ..] = nested else {
-        return None;
-    };
-    let [piece, rest @ ..] = each else {
-        return None;
-    };
-    if *other == place {
-        Some(piece)
-    } else {
-        sub_at(place, others, rest)
-    }
-}
-
 /// Appends the objects of these children, of which the first stands at this place.
 fn put_children(
     nested: &[usize],
-    each: &[Piece],
+    each: &[NestedText],
     place: usize,
     specs: &[ChildSpec],
     out: &mut Vec<u8>,
@@ -196,11 +184,11 @@ fn put_flags(flags: &SupFlags, out: &mut Vec<u8>) -> Result<(), AllocError>
 
 /// Appends the object of a supervisor with these children, of which those at these places have trees with these objects.
 #[tactic(auto, unfolding(crate::specs::Trees::table_text))]
-pub(crate) fn put_table(
+fn put_table(
     flags: &SupFlags,
     specs: &[ChildSpec],
     nested: &[usize],
-    each: &[Piece],
+    each: &[NestedText],
     out: &mut Vec<u8>,
 ) -> Result<(), AllocError>
     requires { length specs.now ≤ 256 }
@@ -211,4 +199,26 @@ pub(crate) fn put_table(
     out.extend_from_slice(b"[")?;
     put_children(nested, each, 0, specs, out)?;
     out.extend_from_slice(b"]}")
+}
+
+/// Who writes the object of a supervisor.
+#[derive(Drop)]
+pub(crate) struct Objects;
+
+impl TableWriter for Objects {
+    ghost use Rattle.otp_objects.specs.Trees.{object_at};
+
+    ghost written = { λ _. object_at };
+
+    fn write(
+        &self,
+        _path: &[u8],
+        flags: &SupFlags,
+        specs: &[ChildSpec],
+        nested: &[usize],
+        each: &[NestedText],
+        out: &mut Vec<u8>,
+    ) -> Result<(), AllocError> {
+        put_table(flags, specs, nested, each, out)
+    }
 }

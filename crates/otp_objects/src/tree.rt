@@ -1,44 +1,13 @@
 //! A tree as an object: the table that its file says, with what it leaves out.
 
-ghost use Rattle.std.specs.Prelude.{◌≡◌, ℕ, List, ◌++◌, IfOk, OnOk};
-ghost use Rattle.otp_objects.specs.Trees.{IsTreeObject, TellsTree, tree_object};
+ghost use Rattle.std.specs.Prelude.{◌≡◌, ◌++◌, OnOk};
+ghost use Rattle.otp_objects.specs.Trees.{TellsTree, tree_object};
 
-use crate::piece::Piece;
-use crate::table::put_table;
-use otp_file::{MAX_DEPTH, TreeSpec};
+use crate::table::Objects;
+use otp_file::TreeSpec;
+use otp_file::nested::piece_of;
 use otp_json::{put_key, put_text};
 use std::alloc::{AllocError, Global};
-
-/// The object of a tree of so many levels at the most.
-fn piece_within(alloc: Global, tree: &TreeSpec, levels: usize) -> Result<Piece, AllocError>
-    ensures { IfOk result (IsTreeObject levels tree.now) }
-{
-    // No tree that a file says has more levels, nor another number of trees than of children that have one.
-    let Some(left) = levels.checked_sub(1) else {
-        return Err(AllocError);
-    };
-    let trees = tree.trees();
-    let nested = tree.nested();
-    if trees.len() != nested.len() {
-        return Err(AllocError);
-    }
-    let mut each = Vec::new(alloc);
-    for number in 0..trees.len() {
-        let piece = piece_within(alloc, &trees[number], left)?;
-        each.push(piece).map_err(|_| AllocError)?;
-    }
-    let mut out = Vec::new(alloc);
-    let supervisor = tree.supervisor();
-    put_table(
-        &supervisor.flags(),
-        supervisor.specs(),
-        nested,
-        each.as_slice(),
-        &mut out,
-    )?;
-    drop(each);
-    Ok(Piece::new(out))
-}
 
 /// Appends the object of a file and its tree, of which this is the object, a line.
 #[tactic(auto, unfolding(crate::specs::Trees::tree_object))]
@@ -65,7 +34,7 @@ pub fn write_tree_object(
 ) -> Result<(), AllocError>
     ensures { OnOk result (TellsTree name.now tree.now out.old.items out.new.items) }
 {
-    let piece = piece_within(alloc, tree, MAX_DEPTH)?;
+    let piece = piece_of(alloc, &Objects, tree)?;
     let told = put_object(name, piece.as_bytes(), out);
     drop(piece);
     told

@@ -8,7 +8,7 @@ use Rattle.std.proofs.lemmas.Bool.Decides.{leb_tells}
 use Rattle.std.proofs.lemmas.List.Folds.{list_any-append}
 use Rattle.otp_bodies.specs.Bodies.{are_given, are_ready, handed_in, is_given, is_out}
 use Rattle.otp_bodies.specs.declared.bodies.Origin.TheVariants.{Spec}
-use Rattle.otp_bodies.specs.declared.bodies.Place.TheVariants.{Free}
+use Rattle.otp_bodies.specs.declared.bodies.BodyPlace.TheVariants.{Free}
 use Rattle.otp_bodies.proofs.Placed.{any_before, any_last}
 
 -- none of them is with a process

@@ -48,7 +48,7 @@ module _ {J S : Type 0} where
     pub none : space.kept ≡ []
     pub room : length plan.bodies.items ≤ space.room
 
-  -- the same for each plan, in their order
+  -- the memory for the bodies of each plan, in their order
   abbrev pub Fit : List (TablePlan J S) → List BodiesView → Type 0
   Fit [] [] = ⊤
   Fit (plan ∷ plans) (space ∷ spaces) = IsSpaceFor plan space × Fit plans spaces

@@ -1,6 +1,6 @@
 -- Passes that are split off for new hands (supervisor, count_children/1).
 use Rattle.std.specs.Prelude.{◌≡◌, ℕ, List, length, map}
-use Rattle.otp_counts.specs.Counts.{Reading, fresh_pass}
+use Rattle.otp_signals.specs.Counts.{Reading, fresh_pass}
 use Rattle.otp_run.specs.Lists.{AllAt}
 use Rattle.otp_hand.specs.Hands.{HandView}
 

@@ -29,7 +29,7 @@ module _ {J S : Type 0} where
   abbrev pub plans_of : List (TablePlan J S) → ℕ → Option Supervisor
   plans_of plans k = supervisor_in (slice_get plans k)
 
-  -- the same of the first so many plans; the others are of places that are spare
+  -- what the first so many plans say, by number; the others are of places that are spare
   abbrev pub first_plans : ℕ → List (TablePlan J S) → ℕ → Option Supervisor
   first_plans count plans = plans_of (take count plans)
 

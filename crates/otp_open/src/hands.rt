@@ -13,16 +13,16 @@ ghost use Rattle.otp_open.specs.Passes.{CanRead, IsFresh};
 
 use crate::opening::Site;
 use crate::passes::split_all;
-use otp_counts::CountsPass;
 use otp_hand::places::keep;
+use otp_hand::waiting::{Around, Resting, Waiting};
 use otp_hand::{Hand, Runner, Senders, TreeNaming};
 use otp_inbox::{InboxNaming, Sender};
 use otp_job::{Body, Process};
 use otp_run::{RunNaming, Scheduler};
 use otp_signals::Viewer;
+use otp_signals::counts::CountsPass;
 use otp_sup::{Letter, Message, SupNaming};
 use otp_tally::Tally;
-use otp_waiting::{Around, Resting, Waiting};
 use std::alloc::{AllocError, Global};
 
 /// The first sender to each supervisor, and the one that sends to whoever opened the tree.

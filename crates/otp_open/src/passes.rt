@@ -2,7 +2,7 @@
 ghost use Rattle.std.specs.Prelude.{◌≡◌, IfOk, OnOk, map};
 ghost use Rattle.otp_open.specs.Passes.{renewed};
 
-use otp_counts::CountsPass;
+use otp_signals::counts::CountsPass;
 use std::alloc::{AllocError, Global};
 
 /// Another pass beside each of these, in their order.

@@ -1,7 +1,7 @@
 //! A place is made ready for each supervisor of a tree. The plans are only lent for it, so that they are whole where memory is refused;
 //! what follows moves them and takes none.
 ghost use Rattle.std.specs.Prelude.{◌≡◌, ◌+◌, ◌<◌, ◌≤◌, ◌++◌, ◌∷◌, [], Contains, IfOk, OnOk, length};
-ghost use Rattle.otp_counts.specs.Words.{AreFew};
+ghost use Rattle.otp_signals.specs.Words.{AreFew};
 ghost use Rattle.otp_spec.specs.declared.limits.TheConstants.{MAX_TABLES};
 ghost use Rattle.otp_hand.specs.declared.client.TheConstants.{ROOT_SLOT};
 ghost use Rattle.otp_inbox.specs.Tokens.{first_sender};
@@ -12,11 +12,11 @@ ghost use Rattle.otp_open.specs.Readies.{AreReadyFor, IsReadyFor, first_counts};
 
 use crate::opening::SLOTS;
 use crate::plan::TablePlan;
-use otp_counts::{CountsPass, Publisher};
 use otp_hand::places::{keep, next_of};
 use otp_inbox::{Inbox, Sender, Taker, UnnamedInbox};
 use otp_job::Body;
 use otp_rules::CountsNow;
+use otp_signals::counts::{CountsPass, Publisher};
 use otp_signals::{Owner, Words};
 use otp_spec::SupSpec;
 use otp_sup::{Bodies, Letter, Message, SupNaming};

@@ -1,2 +1,2 @@
-pub mod Subs
+pub mod Inert
 pub mod Joined

@@ -1,20 +1,13 @@
--- What the failure of each child costs, as a page (own).
-use Rattle.std.specs.Prelude.{◌≡◌, ℕ, ◌==◌, min, Bool, true, false, List, [], ◌∷◌, ◌++◌, codes, decimal, length, nat_le, if◌then◌else◌}
-use Rattle.std.specs.List.{flat_map}
-use Rattle.otp_file.specs.Trees.{Tree}
+-- What the failure of some children costs, as a row of a page (own).
+use Rattle.std.specs.Prelude.{ℕ, ◌==◌, min, List, [], ◌++◌, codes, decimal, length, nat_le, if◌then◌else◌}
 use Rattle.otp_costs.specs.Groups.{below}
-use Rattle.otp_costs.specs.Rows.{AreRows}
 use Rattle.otp_costs.specs.Table.{root_text}
-use Rattle.otp_costs.specs.Told.{is_all}
 use Rattle.otp_costs.specs.Words.{burst_text, gone_text, interval_text}
-use Rattle.otp_costs.specs.declared.alike.Grain.{Grain}
-use Rattle.otp_costs.specs.declared.pick.Pick.{Pick}
 use Rattle.otp_costs.specs.declared.rows.Row.{Row}
-use Rattle.otp_html.specs.Frame.{foot_text, head_text}
-use Rattle.otp_html.specs.Markup.{element}
-use Rattle.otp_limits.specs.Falls.{supervisor_path}
-use Rattle.otp_limits.specs.declared.fate.Fate.{Fate}
-use Rattle.otp_limits.specs.declared.fate.Fate.TheVariants as fate
+use Rattle.otp_pages.specs.Markup.{element}
+use Rattle.otp_costs.specs.Falls.{supervisor_path}
+use Rattle.otp_costs.specs.declared.limits.fate.Fate.{Fate}
+use Rattle.otp_costs.specs.declared.limits.fate.Fate.TheVariants as fate
 use Rattle.otp_reason.specs.declared.name.Name.{Name}
 use Rattle.otp_pages.specs.Names.{names_html, path_html, paths_html}
 use Rattle.otp_pages.specs.declared.fates.TheConstants.{FULL}
@@ -90,27 +83,3 @@ affected_cells row = affected_cell row.path row.own.stops row.stopped ++ affecte
 
 unfoldable pub row_html : Row → List ℕ
 row_html row = child_cell row ++ burst_cell row.own.burst ++ clock_cell row ++ affected_cells row ++ giver_cell row ++ root_cell row
-
-unfoldable pub limits_legend : List ℕ
-limits_legend = codes "<p class=\"legend\">The worst child stands first. Burst: so many crashes are survived with no time between, and the next ends its supervisor; a full bar is 20 or more. Interval: crashes so far apart are survived for ever; by OTP, whose clock has whole seconds.</p>\n"
-
-unfoldable pub limits_titles : List ℕ
-limits_titles = codes "<table>\n<thead><tr><th scope=\"col\">child</th><th scope=\"col\" class=\"n\">burst</th><th scope=\"col\" class=\"n\">interval</th><th scope=\"col\" class=\"n\">by OTP</th><th scope=\"col\">stops</th><th scope=\"col\">starts</th><th scope=\"col\">gives up</th><th scope=\"col\">root survives</th></tr></thead>\n<tbody>\n"
-
--- the page of these rows, whose file has this name
-unfoldable pub limits_page : List ℕ → List Row → List ℕ
-limits_page name rows =
-    head_text (codes "What each crash costs in") name ++ limits_legend ++ limits_titles ++ flat_map row_html rows
-    ++ codes "</tbody>\n</table>\n" ++ foot_text
-
-abbrev pub is_none : List Row → Bool
-is_none [] = true
-is_none (row ∷ rows) = false
-
--- the rows of those children that are asked for were told; or a child or a supervisor is asked for, and there is none
-unfoldable pub TellsRows : Bool → List ℕ → Pick → List Row → List ℕ → List ℕ → Type 0
-TellsRows true name pick rows before after = after ≡ before ++ limits_page name rows
-TellsRows false name pick rows before after = (is_all pick ≡ false) × ((rows ≡ []) × (after ≡ before))
-
-abbrev pub TellsLimits : Bool → List ℕ → Grain → Pick → Tree → List ℕ → List ℕ → Type 0
-TellsLimits found name grain pick tree before after = (rows : List Row) × (AreRows grain pick tree rows × TellsRows found name pick rows before after)

@@ -2,14 +2,14 @@
 use Rattle.std.specs.Prelude.{ℕ, List, [], ◌∷◌, ◌++◌, codes}
 use Rattle.std.specs.List.{flat_map}
 use Rattle.otp_costs.specs.Groups.{below}
-use Rattle.otp_html.specs.Markup.{element}
+use Rattle.otp_pages.specs.Markup.{element}
 use Rattle.otp_reason.specs.declared.name.Name.{Name}
 
 -- the name of a child, behind the path of its supervisor's children
 unfoldable pub name_html : List ℕ → Name → List ℕ
 name_html path name = element (codes "<code>") (below path name) (codes "</code>")
 
--- the same behind another
+-- the name of a child behind another
 unfoldable pub next_name : List ℕ → Name → List ℕ
 next_name path name = codes ", " ++ name_html path name
 
@@ -22,7 +22,7 @@ names_html path (name ∷ names) = name_html path name ++ flat_map (next_name pa
 unfoldable pub path_html : List ℕ → List ℕ
 path_html path = element (codes "<code>") path (codes "</code>")
 
--- the same behind another
+-- the path of a supervisor behind another
 unfoldable pub next_path : List ℕ → List ℕ
 next_path path = codes ", then " ++ path_html path
 

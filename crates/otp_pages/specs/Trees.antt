@@ -1,11 +1,10 @@
 -- A tree as a page: supervisors and their children in start order, with their keys (own).
-use Prim.Native.Nat.{zero, suc}
 use Rattle.std.specs.Prelude.{◌≡◌, ℕ, ◌+◌, ◌==◌, Bool, true, false, List, [], ◌∷◌, ◌++◌, Option, Some, None, codes, decimal, if◌then◌else◌}
-use Rattle.std.specs.List.{flat_map}
-use Rattle.otp_file.specs.Trees.{Tree, tables_of}
+use Rattle.otp_file.specs.Trees.{Tree}
 use Rattle.otp_file.specs.declared.limits.TheConstants.{MAX_DEPTH}
-use Rattle.otp_html.specs.Frame.{foot_text, head_text}
-use Rattle.otp_html.specs.Markup.{element}
+use Rattle.otp_pages.specs.Frame.{foot_text, head_text}
+use Rattle.otp_pages.specs.Markup.{element}
+use Rattle.otp_file.specs.Nested.{IsPiece, Written, sub_at}
 use Rattle.otp_reason.specs.Names.{name_bytes}
 use Rattle.otp_spec.specs.Words.{restart_word, strategy_word, type_word}
 use Rattle.otp_spec.specs.declared.child.ChildSpec.{ChildSpec}
@@ -58,12 +57,6 @@ sub_html (Some piece) = codes "\n" ++ piece
 unfoldable pub child_html : ChildSpec → Option (List ℕ) → List ℕ
 child_html spec sub = child_head spec ++ sub_html sub ++ codes "</li>\n"
 
--- what is said of the tree of the child at this place, if it has one
-abbrev pub sub_at : ℕ → List ℕ → List (List ℕ) → Option (List ℕ)
-sub_at place [] each = None
-sub_at place (other ∷ others) [] = None
-sub_at place (other ∷ others) (piece ∷ each) = if other == place then Some piece else sub_at place others each
-
 -- these children, of which the first stands at this place
 abbrev pub children_html : List ℕ → List (List ℕ) → ℕ → List ChildSpec → List ℕ
 children_html nested each place [] = []
@@ -91,20 +84,9 @@ flags_html flags =
 unfoldable pub supervisor_html : SupFlags → List ChildSpec → List ℕ → List (List ℕ) → List ℕ
 supervisor_html flags specs nested each = flags_html flags ++ codes "<ul>\n" ++ children_html nested each 0 specs ++ codes "</ul>\n"
 
--- what is said of each of these trees, those of the children at these places
-abbrev pub AreSubs : (Tree → List ℕ → Type 0) → List ℕ → List Tree → List (List ℕ) → Type 0
-AreSubs Is [] [] [] = Unit {0}
-AreSubs Is (place ∷ places) (tree ∷ trees) (piece ∷ each) = Is tree piece × AreSubs Is places trees each
-AreSubs Is places trees each = ⊥
-
--- what is said of a tree of so many levels at the most
-abbrev pub IsTreeHtml : ℕ → Tree → List ℕ → Type 0
-IsTreeHtml zero tree piece = ⊥
-IsTreeHtml (suc levels) tree piece =
-    (trees : List Tree) × (each : List (List ℕ))
-    × (flat_map tables_of trees ≡ tree.below)
-    × AreSubs (IsTreeHtml levels) tree.nested trees each
-    × (piece ≡ supervisor_html tree.flags tree.specs tree.nested each)
+-- wherever it stands
+abbrev pub html_at : Written
+html_at path flags specs nested each = supervisor_html flags specs nested each
 
 unfoldable pub tree_legend : List ℕ
 tree_legend = codes "<p class=\"legend\">Children stand in start order, and are stopped in reverse. A supervisor with more restarts in its time than it may have gives up.</p>\n<div class=\"tree\">\n"
@@ -115,4 +97,4 @@ tree_page name piece = head_text (codes "Supervision tree of") name ++ tree_lege
 
 -- a tree is told as a page
 abbrev pub TellsTree : List ℕ → Tree → List ℕ → Type 0
-TellsTree name tree page = (piece : List ℕ) × (IsTreeHtml MAX_DEPTH tree piece × (page ≡ tree_page name piece))
+TellsTree name tree page = (piece : List ℕ) × (IsPiece html_at MAX_DEPTH [] tree piece × (page ≡ tree_page name piece))

@@ -3,8 +3,8 @@
 ghost use Rattle.std.specs.Prelude.{◌≡◌, ◌++◌, OnOk, option_map};
 ghost use Rattle.otp_pages.specs.Trees.{child_head, child_html, kind_tag, restart_tag, shutdown_tag, shutdown_words, significant_tag, start_html, sub_html, tags_html};
 
-use crate::piece::Piece;
-use otp_html::put_element;
+use crate::html::put_element;
+use otp_file::nested::NestedText;
 use otp_spec::{ChildSpec, ChildType, Restart, Shutdown};
 use otp_text::write_number;
 use std::alloc::AllocError;
@@ -104,7 +104,7 @@ fn put_head(spec: &ChildSpec, out: &mut Vec<u8>) -> Result<(), AllocError>
 
 /// Appends what is said of the supervisor that a child is, if its tree stands in the file.
 #[tactic(auto, unfolding(crate::specs::Trees::sub_html))]
-fn put_sub(sub: Option<&Piece>, out: &mut Vec<u8>) -> Result<(), AllocError>
+pub(crate) fn put_sub(sub: Option<&NestedText>, out: &mut Vec<u8>) -> Result<(), AllocError>
     ensures { OnOk result (out.new.items ≡ out.old.items ++ sub_html (option_map (λ piece. piece.now) sub.entry)) }
 {
     match sub {
@@ -120,7 +120,7 @@ fn put_sub(sub: Option<&Piece>, out: &mut Vec<u8>) -> Result<(), AllocError>
 #[tactic(auto, unfolding(crate::specs::Trees::child_html))]
 pub(crate) fn put_child(
     spec: &ChildSpec,
-    sub: Option<&Piece>,
+    sub: Option<&NestedText>,
     out: &mut Vec<u8>,
 ) -> Result<(), AllocError>
     ensures { OnOk result (out.new.items ≡ out.old.items ++ child_html spec.now (option_map (λ piece. piece.now) sub.entry)) }

@@ -5,8 +5,8 @@ ghost use Rattle.otp_costs.specs.Words.{gone_text};
 ghost use Rattle.otp_pages.specs.Costs.{bar_ground, bar_html, bar_of, bar_opening, burst_cell, clock_cell, full_unless, gives_up_html, giver_cell, interval_cell, root_cell};
 
 use crate::names::{put_path, put_paths};
+use otp_costs::limits::{Fate, supervisor_path};
 use otp_costs::{Row, write_burst, write_interval, write_root};
-use otp_limits::{Fate, supervisor_path};
 use otp_text::write_number;
 use std::alloc::AllocError;
 
@@ -53,7 +53,7 @@ fn put_bar_ground(out: &mut Vec<u8>) -> Result<(), AllocError>
 
 /// Appends how many crashes at once are survived, as a bar.
 #[tactic(auto, unfolding(crate::specs::Costs::bar_html))]
-fn put_bar(burst: Fate, out: &mut Vec<u8>) -> Result<(), AllocError>
+pub(crate) fn put_bar(burst: Fate, out: &mut Vec<u8>) -> Result<(), AllocError>
     ensures { OnOk result (out.new.items ≡ out.old.items ++ bar_html burst) }
 {
     put_bar_opening(out)?;
@@ -109,7 +109,7 @@ fn put_gone(count: u64, out: &mut Vec<u8>) -> Result<(), AllocError>
 
 /// Appends who gives up after the burst.
 #[tactic(auto, unfolding(crate::specs::Costs::gives_up_html))]
-fn put_gives_up(path: &[u8], burst: Fate, out: &mut Vec<u8>) -> Result<(), AllocError>
+pub(crate) fn put_gives_up(path: &[u8], burst: Fate, out: &mut Vec<u8>) -> Result<(), AllocError>
     ensures { OnOk result (out.new.items ≡ out.old.items ++ gives_up_html path.now burst) }
 {
     match burst {

@@ -1,12 +1,15 @@
 //! What the program says of a tree, as pages of HTML: the tree itself, and what the failure of each child costs. Each page is one
 //! file, and a stated function of what is known.
+//!
+//! [`html`] escapes what comes from outside, and gives each page its head, its style and its end.
 #![tactic(auto)]
 
 mod child;
 mod fates;
+pub mod html;
 mod limits;
+mod map;
 mod names;
-mod piece;
 mod row;
 mod supervisor;
 mod tree;

@@ -5,9 +5,9 @@ ghost use Rattle.std.specs.List.{flat_map};
 ghost use Rattle.otp_pages.specs.Costs.{affected_cell, affected_cells, alike_html, child_cell, count_html, row_html};
 
 use crate::fates::{put_burst, put_giver, put_intervals, put_root};
-use crate::names::{put_below, put_names};
-use otp_costs::Row;
-use otp_html::put_element;
+use crate::html::put_element;
+use crate::names::put_names;
+use otp_costs::{Row, put_below};
 use otp_reason::Name;
 use otp_text::write_number;
 use std::alloc::AllocError;
@@ -46,7 +46,7 @@ fn put_child(row: &Row, word: &mut Vec<u8>, out: &mut Vec<u8>) -> Result<(), All
 
 /// Appends how many processes some children are with those below, where there are some below.
 #[tactic(auto, unfolding(crate::specs::Costs::count_html))]
-fn put_count(children: u64, processes: u64, out: &mut Vec<u8>) -> Result<(), AllocError>
+pub(crate) fn put_count(children: u64, processes: u64, out: &mut Vec<u8>) -> Result<(), AllocError>
     ensures { OnOk result (out.new.items ≡ out.old.items ++ count_html children processes) }
 {
     if processes <= children {

@@ -1,10 +1,11 @@
 //! What a page says of a supervisor of a tree.
 
 ghost use Rattle.std.specs.Prelude.{◌≡◌, ◌+◌, ◌≤◌, ◌++◌, OnOk, length, option_map};
-ghost use Rattle.otp_pages.specs.Trees.{auto_words, children_html, flags_html, limit_words, restarts_words, sub_at, supervisor_html};
+ghost use Rattle.otp_file.specs.Nested.{sub_at};
+ghost use Rattle.otp_pages.specs.Trees.{auto_words, children_html, flags_html, limit_words, restarts_words, supervisor_html};
 
 use crate::child::put_child;
-use crate::piece::Piece;
+use otp_file::nested::{NestedText, TableWriter, sub_at};
 use otp_spec::{AutoShutdown, ChildSpec, SupFlags};
 use otp_text::write_number;
 use std::alloc::AllocError;
@@ -61,27 +62,10 @@ fn put_flags(flags: &SupFlags, out: &mut Vec<u8>) -> Result<(), AllocError>
     out.extend_from_slice(b"</p>\n")
 }
 
-/// What is said of the tree of the child at this place, if it has one.
-fn sub_at<'e>(place: usize, nested: &[usize], each: &'e [Piece]) -> Option<&'e Piece>
-    ensures { option_map (λ piece. piece.now) result ≡ sub_at place nested.now each.now }
-{
-    let [other, others @ ..] = nested else {
-        return None;
-    };
-    let [piece, rest @ ..] = each else {
-        return None;
-    };
-    if *other == place {
-        Some(piece)
-    } else {
-        sub_at(place, others, rest)
-    }
-}
-
 /// Appends what is said of these children, of which the first stands at this place.
 fn put_children(
     nested: &[usize],
-    each: &[Piece],
+    each: &[NestedText],
     place: usize,
     specs: &[ChildSpec],
     out: &mut Vec<u8>,
@@ -100,11 +84,11 @@ fn put_children(
 
 /// Appends what is said of a supervisor and its children, of which those at these places have trees of which this is said.
 #[tactic(auto, unfolding(crate::specs::Trees::supervisor_html))]
-pub(crate) fn put_supervisor(
+fn put_supervisor(
     flags: &SupFlags,
     specs: &[ChildSpec],
     nested: &[usize],
-    each: &[Piece],
+    each: &[NestedText],
     out: &mut Vec<u8>,
 ) -> Result<(), AllocError>
     requires { length specs.now ≤ 256 }
@@ -114,4 +98,26 @@ pub(crate) fn put_supervisor(
     out.extend_from_slice(b"<ul>\n")?;
     put_children(nested, each, 0, specs, out)?;
     out.extend_from_slice(b"</ul>\n")
+}
+
+/// Who writes what a page says of a supervisor.
+#[derive(Drop)]
+pub(crate) struct Supervisors;
+
+impl TableWriter for Supervisors {
+    ghost use Rattle.otp_pages.specs.Trees.{html_at};
+
+    ghost written = { λ _. html_at };
+
+    fn write(
+        &self,
+        _path: &[u8],
+        flags: &SupFlags,
+        specs: &[ChildSpec],
+        nested: &[usize],
+        each: &[NestedText],
+        out: &mut Vec<u8>,
+    ) -> Result<(), AllocError> {
+        put_supervisor(flags, specs, nested, each, out)
+    }
 }

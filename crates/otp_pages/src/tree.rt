@@ -1,44 +1,13 @@
 //! A tree as a page.
 
 ghost use Rattle.std.specs.Prelude.{◌≡◌, ℕ, List, ◌++◌, IfOk, OnErr, OnOk};
-ghost use Rattle.otp_pages.specs.Trees.{IsTreeHtml, TellsTree, tree_legend, tree_page};
+ghost use Rattle.otp_pages.specs.Trees.{TellsTree, tree_legend, tree_page};
 
-use crate::piece::Piece;
-use crate::supervisor::put_supervisor;
-use otp_file::{MAX_DEPTH, TreeSpec};
-use otp_html::{put_foot, put_head};
+use crate::html::{put_foot, put_head};
+use crate::supervisor::Supervisors;
+use otp_file::TreeSpec;
+use otp_file::nested::piece_of;
 use std::alloc::{AllocError, Global};
-
-/// What is said of a tree of so many levels at the most.
-fn piece_within(alloc: Global, tree: &TreeSpec, levels: usize) -> Result<Piece, AllocError>
-    ensures { IfOk result (IsTreeHtml levels tree.now) }
-{
-    // No tree that a file says has more levels, nor another number of trees than of children that have one.
-    let Some(left) = levels.checked_sub(1) else {
-        return Err(AllocError);
-    };
-    let trees = tree.trees();
-    let nested = tree.nested();
-    if trees.len() != nested.len() {
-        return Err(AllocError);
-    }
-    let mut each = Vec::new(alloc);
-    for number in 0..trees.len() {
-        let piece = piece_within(alloc, &trees[number], left)?;
-        each.push(piece).map_err(|_| AllocError)?;
-    }
-    let mut out = Vec::new(alloc);
-    let supervisor = tree.supervisor();
-    put_supervisor(
-        &supervisor.flags(),
-        supervisor.specs(),
-        nested,
-        each.as_slice(),
-        &mut out,
-    )?;
-    drop(each);
-    Ok(Piece::new(out))
-}
 
 /// Appends what the page is to be read for.
 #[tactic(auto, unfolding(crate::specs::Trees::tree_legend))]
@@ -66,7 +35,7 @@ fn put_page(name: &[u8], piece: &[u8], out: &mut Vec<u8>) -> Result<(), AllocErr
 fn page_of(alloc: Global, name: &[u8], tree: &TreeSpec) -> Result<Vec<u8>, AllocError>
     ensures { IfOk result (λ page. TellsTree name.now tree.now page.items) }
 {
-    let piece = piece_within(alloc, tree, MAX_DEPTH)?;
+    let piece = piece_of(alloc, &Supervisors, tree)?;
     let mut page = Vec::new(alloc);
     put_page(name, piece.as_bytes(), &mut page)?;
     drop(piece);

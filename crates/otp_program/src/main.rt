@@ -5,7 +5,7 @@ mod screen;
 
 use otp_cli::words_of;
 use otp_command_run::{Pool, run_with};
-use otp_host::System;
+use otp_exit::host::System;
 use otp_live::LogLines;
 use otp_sim::Counted;
 use screen::Screen;

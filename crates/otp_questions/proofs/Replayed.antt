@@ -12,9 +12,9 @@ pub is_replay : (log : Bor (List ℕ)) (text : List ℕ) (is_listed : Bool) (nam
     → WasReplayed end file log.now text is_listed old.bytes new.bytes → IsReplay log text is_listed name (ending_of_try (Some log) end) file old new
 is_replay log text is_listed name file old new trial.Done was = was
 is_replay log text is_listed name file old new (trial.LineRefused line why) was = (refl, was)
-is_replay log text is_listed name file old new (trial.LineMissed line why) was = (refl, inl was)
+is_replay log text is_listed name file old new (trial.LineMissed line why near) was = (refl, inl was)
 is_replay log text is_listed name file old new (trial.ExpectationFailed line) was = (refl, was)
-is_replay log text is_listed name file old new (trial.LeftOut line why) was = (refl, inr was)
+is_replay log text is_listed name file old new (trial.LeftOut line why near) was = (refl, inr was)
 is_replay log text is_listed name file old new trial.NothingPlayed was = was
 is_replay log text is_listed name file old new trial.HistoryFull was = was
 is_replay log text is_listed name file old new trial.InputFailed was = was

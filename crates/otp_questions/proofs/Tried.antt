@@ -11,9 +11,9 @@ pub is_trial : (name : List ℕ) (script : Option (Bor (List ℕ))) (file : List
     → IsTrial name script (ending_of_try script end) file old new
 is_trial name script file old new trial.Done was = was
 is_trial name script file old new (trial.LineRefused line why) was = (refl, was)
-is_trial name script file old new (trial.LineMissed line why) was = (refl, inl was)
+is_trial name script file old new (trial.LineMissed line why near) was = (refl, inl was)
 is_trial name script file old new (trial.ExpectationFailed line) was = (refl, was)
-is_trial name script file old new (trial.LeftOut line why) was = (refl, inr was)
+is_trial name script file old new (trial.LeftOut line why near) was = (refl, inr was)
 is_trial name script file old new trial.NothingPlayed was = was
 is_trial name script file old new trial.HistoryFull was = was
 is_trial name script file old new trial.InputFailed was = was

@@ -2,7 +2,8 @@ pub mod Said
 pub mod Limited
 pub mod Stopped
 pub mod Suggested
+pub mod Rooted
 pub mod Compared
 pub mod Tried
-pub mod Replayed
 pub mod Paged
+pub mod Replayed

@@ -1,9 +1,9 @@
 -- What `limits` writes (own).
-use Rattle.std.specs.Prelude.{◌≡◌, ℕ, Bool, true, false, List, [], Ok}
+use Rattle.std.specs.Prelude.{◌≡◌, ℕ, Bool, true, false, List, [], None, Ok, Option}
 use Rattle.std.specs.Io.KnownBytes.{Appends}
-use Rattle.std.specs.Borrow.{Bor}
 use Rattle.otp_file.specs.Files.{Says}
 use Rattle.otp_file.specs.Trees.{Tree}
+use Rattle.otp_reason.specs.declared.text.Text.{Text}
 use Rattle.otp_sim.specs.Devices.{Written}
 use Rattle.otp_costs.specs.Told.{Tells}
 use Rattle.otp_costs.specs.declared.alike.Grain.{Grain}
@@ -36,18 +36,19 @@ abbrev pub HasNone : Bool → List ℕ → Grain → Pick → List ℕ → Type 
 HasNone is_json name grain pick file =
     (tree : Tree) × (after : List ℕ) × (Says file (Ok tree) × TellsLimits is_json name false grain pick tree [] after)
 
--- how the program ends where there is no child, or no supervisor with children, of the name that is asked for
-abbrev pub IsUnknown : Pick → ProgramEnd → Type 0
-IsUnknown pick.All ending = ⊥
-IsUnknown (pick.Child name) ending = ending ≡ NotFound name
-IsUnknown (pick.Table name) ending = ending ≡ NoSupervisor name
+-- how the program ends where there is no child, or no supervisor with children, of the name that is asked for; the child with this path
+-- may be meant
+abbrev pub IsUnknown : Pick → Option Text → ProgramEnd → Type 0
+IsUnknown pick.All near ending = ⊥
+IsUnknown (pick.Child name) near ending = ending ≡ NotFound name near
+IsUnknown (pick.Table name) near ending = ending ≡ NoSupervisor name
 
 -- the limits of a tree were written, or none of its children has the name that is asked for
 abbrev pub IsLimited : Bool → Grain → Pick → List ℕ → ProgramEnd → List ℕ → Written → Written → Type 0
 IsLimited is_json grain pick name Done file old new =
     (text : List ℕ) × (HasLimits is_json name grain pick file text × Appends old.bytes new.bytes text)
-IsLimited is_json grain pick name (NotFound what) file old new = (new ≡ old) × (IsUnknown pick (NotFound what) × HasNone is_json name grain pick file)
+IsLimited is_json grain pick name (NotFound what near) file old new = (new ≡ old) × (IsUnknown pick near (NotFound what near) × HasNone is_json name grain pick file)
 IsLimited is_json grain pick name (NoSupervisor what) file old new =
-    (new ≡ old) × (IsUnknown pick (NoSupervisor what) × HasNone is_json name grain pick file)
+    (new ≡ old) × (IsUnknown pick None (NoSupervisor what) × HasNone is_json name grain pick file)
 IsLimited is_json grain pick name HistoryFull file old new = (new ≡ old) × HasTree file
 IsLimited is_json grain pick name ending file old new = IsNotSaid name ending file old new

@@ -1,16 +1,16 @@
 -- Pages of HTML, and objects, that are made of a file and not yet written (own).
-use Rattle.std.specs.Prelude.{◌≡◌, ◌⊎◌, ℕ, ◌<◌, true, false, List, [], Option, Ok}
+use Rattle.std.specs.Prelude.{◌≡◌, ◌⊎◌, ℕ, ◌<◌, true, false, List, [], None, Option, Ok}
 use Rattle.std.specs.Borrow.{Bor}
 use Rattle.std.specs.Io.KnownBytes.{Appends}
 use Rattle.otp_sim.specs.Devices.{Written}
-use Rattle.otp_account.specs.Accounts.{IsAccount}
-use Rattle.otp_account.specs.declared.account.Account.{Account}
+use Rattle.otp_try.specs.Accounts.{IsAccount}
+use Rattle.otp_try.specs.declared.account.account.Account.{Account}
 use Rattle.otp_check.specs.Checks.{IsFirstFault}
 use Rattle.otp_file.specs.Files.{Says}
 use Rattle.otp_file.specs.Trees.{Tree}
 use Rattle.otp_costs.specs.declared.alike.Grain.{Grain}
 use Rattle.otp_costs.specs.declared.pick.Pick.{Pick}
-use Rattle.otp_pages.specs.Costs.{TellsLimits}
+use Rattle.otp_pages.specs.Limits.{TellsLimits}
 use Rattle.otp_pages.specs.Trees.{TellsTree}
 use Rattle.otp_try_pages.specs.Objects.{TellsRun}
 use Rattle.otp_try_pages.specs.Timeline.{TellsPage}
@@ -38,10 +38,10 @@ IsLimitsPage grain pick name file ending page =
 
 -- or there is none of them, or nothing was made
 abbrev pub HasNoLimits : Grain → Pick → List ℕ → ProgramEnd → List ℕ → Type 0
-HasNoLimits grain pick name (NotFound what) file =
-    IsUnknown pick (NotFound what) × ((tree : Tree) × (after : List ℕ) × (Says file (Ok tree) × TellsLimits false name grain pick tree [] after))
+HasNoLimits grain pick name (NotFound what near) file =
+    IsUnknown pick near (NotFound what near) × ((tree : Tree) × (after : List ℕ) × (Says file (Ok tree) × TellsLimits false name grain pick tree [] after))
 HasNoLimits grain pick name (NoSupervisor what) file =
-    IsUnknown pick (NoSupervisor what)
+    IsUnknown pick None (NoSupervisor what)
     × ((tree : Tree) × (after : List ℕ) × (Says file (Ok tree) × TellsLimits false name grain pick tree [] after))
 HasNoLimits grain pick name ending file = IsNotMade name ending file
 

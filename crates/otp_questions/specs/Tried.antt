@@ -15,9 +15,9 @@ use Rattle.otp_exit.specs.declared.ending.ProgramEnd.TheVariants.{Done, NoTree, 
 abbrev pub ending_of_try : Option (Bor (List ℕ)) → TryEnd → ProgramEnd
 ending_of_try script trial.Done = Done
 ending_of_try script (trial.LineRefused line why) = ScriptRefused script line why
-ending_of_try script (trial.LineMissed line why) = ScriptMissed script line why
+ending_of_try script (trial.LineMissed line why near) = ScriptMissed script line why near
 ending_of_try script (trial.ExpectationFailed line) = ExpectationFailed script line
-ending_of_try script (trial.LeftOut line why) = ScriptMissed script line why
+ending_of_try script (trial.LeftOut line why near) = ScriptMissed script line why near
 ending_of_try script trial.NothingPlayed = NothingPlayed
 ending_of_try script trial.HistoryFull = HistoryFull
 ending_of_try script trial.InputFailed = InputFailed
@@ -35,8 +35,8 @@ abbrev pub IsTrial : List ℕ → Option (Bor (List ℕ)) → ProgramEnd → Lis
 IsTrial name script Done file old new = WasTried trial.Done file old new
 IsTrial name script (NoTree why named) file old new = (new ≡ old) × ((named.now ≡ name) × IsFirstFault why file)
 IsTrial name script (ScriptRefused what line why) file old new = (what ≡ script) × WasTried (trial.LineRefused line why) file old new
-IsTrial name script (ScriptMissed what line why) file old new =
-    (what ≡ script) × (WasTried (trial.LineMissed line why) file old new ⊎ WasTried (trial.LeftOut line why) file old new)
+IsTrial name script (ScriptMissed what line why near) file old new =
+    (what ≡ script) × (WasTried (trial.LineMissed line why near) file old new ⊎ WasTried (trial.LeftOut line why near) file old new)
 IsTrial name script (ExpectationFailed what line) file old new = (what ≡ script) × WasTried (trial.ExpectationFailed line) file old new
 IsTrial name script NothingPlayed file old new = WasTried trial.NothingPlayed file old new
 IsTrial name script HistoryFull file old new = WasTried trial.HistoryFull file old new

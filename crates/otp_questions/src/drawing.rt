@@ -5,8 +5,8 @@ ghost use Rattle.otp_questions.specs.Said.{IsDrawn, IsTreeTold};
 use otp_exit::ProgramEnd;
 use otp_file::read_tree;
 use otp_objects::write_tree_object;
-use otp_picture::draw;
 use otp_sim::{Failed, Output, write_all};
+use otp_text::picture::draw;
 use std::alloc::Global;
 
 /// Draws the tree that a file says.

@@ -4,10 +4,12 @@ ghost use Rattle.std.specs.Prelude.{◌≡◌, IfOk, false};
 ghost use Rattle.otp_questions.specs.Limited.{IsLimited, IsUnknown, TellsLimits, ending_of_halt};
 ghost use Rattle.otp_costs.specs.Told.{is_all};
 
+use crate::near::near_child;
 use otp_costs::{Grain, Pick, Progress, write_limits};
 use otp_exit::ProgramEnd;
 use otp_file::{TreeSpec, read_tree};
 use otp_objects::write_limits_object;
+use otp_reason::Text;
 use otp_sim::{Failed, Output, write_all};
 use otp_trial::Halt;
 use std::alloc::Global;
@@ -64,6 +66,7 @@ pub fn limit_file<'a, P: Progress, W: Output>(
         Ok(tree) => tree,
         Err(fault) => return ProgramEnd::of_no_tree(fault, name),
     };
+    let near = near_pick(alloc, &tree, &pick);
     let mut table = Vec::new(alloc);
     let told = tell_limits(
         alloc, is_json, name, &tree, grain, &pick, progress, &mut table,
@@ -72,7 +75,7 @@ pub fn limit_file<'a, P: Progress, W: Output>(
     drop(tree);
     match told {
         Ok(true) => {}
-        Ok(false) => return not_found(pick),
+        Ok(false) => return not_found(pick, near),
         Err(halt) => return end_of_halt(halt),
     }
     match write_all(output, table.as_slice()) {
@@ -81,14 +84,22 @@ pub fn limit_file<'a, P: Progress, W: Output>(
     }
 }
 
-/// The end where no child, or no supervisor, is found by a name.
+/// The path of the child that is meant where the one that is asked for isn't there, if one is near.
+pub(crate) fn near_pick(alloc: Global, tree: &TreeSpec, pick: &Pick<'_>) -> Option<Text> {
+    match pick {
+        Pick::Child(name) => near_child(alloc, tree, name),
+        Pick::Table(_) | Pick::All => None,
+    }
+}
+
+/// The end where no child, or no supervisor, is found by a name; the child with this path may be meant.
 #[tactic(auto, unfolding(otp_costs::specs::Told::is_all))]
-pub(crate) fn not_found<'a>(pick: Pick<'a>) -> ProgramEnd<'a>
+pub(crate) fn not_found<'a>(pick: Pick<'a>, near: Option<Text>) -> ProgramEnd<'a>
     requires { is_all pick ≡ false }
-    ensures { IsUnknown pick.entry result }
+    ensures { IsUnknown pick.entry near result }
 {
     match pick {
-        Pick::Child(name) => ProgramEnd::NotFound(name),
+        Pick::Child(name) => ProgramEnd::NotFound(name, near),
         Pick::Table(name) => ProgramEnd::NoSupervisor(name),
         Pick::All => ProgramEnd::Done,
     }

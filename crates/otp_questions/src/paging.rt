@@ -3,10 +3,10 @@
 ghost use Rattle.std.specs.Prelude.{◌≡◌, IfErr, IfOk, false};
 ghost use Rattle.otp_exit.specs.declared.ending.ProgramEnd.TheVariants.{Done};
 ghost use Rattle.otp_costs.specs.Told.{is_all};
-ghost use Rattle.otp_pages.specs.Costs.{TellsLimits};
+ghost use Rattle.otp_pages.specs.Limits.{TellsLimits};
 ghost use Rattle.otp_questions.specs.Paged.{HasNoLimits, IsLimitsPage, IsNotMade, IsTreePage};
 
-use crate::limiting::{end_of_halt, not_found};
+use crate::limiting::{end_of_halt, near_pick, not_found};
 use otp_costs::{Grain, Pick};
 use otp_exit::ProgramEnd;
 use otp_file::{TreeSpec, read_tree};
@@ -44,7 +44,7 @@ pub fn page_of_tree<'a>(
 }
 
 /// Appends the page of the limits of those children of a tree that are asked for, and says whether there are any.
-#[tactic(auto, unfolding(otp_pages::specs::Costs::TellsRows))]
+#[tactic(auto, unfolding(otp_pages::specs::Limits::TellsRows))]
 fn write_limits(
     alloc: Global,
     name: &str,
@@ -78,6 +78,7 @@ pub fn page_of_limits<'a>(
         Ok(tree) => tree,
         Err(fault) => return Err(ProgramEnd::of_no_tree(fault, name)),
     };
+    let near = near_pick(alloc, &tree, &pick);
     let mut page = Vec::new(alloc);
     let told = write_limits(alloc, name, &tree, grain, &pick, &mut page);
     drop(tree);
@@ -85,7 +86,7 @@ pub fn page_of_limits<'a>(
         Ok(true) => Ok(page),
         Ok(false) => {
             drop(page);
-            Err(not_found(pick))
+            Err(not_found(pick, near))
         }
         Err(halt) => {
             drop(page);

@@ -5,11 +5,11 @@ ghost use Rattle.otp_questions.specs.Paged.{IsNotMade, IsRunOf, IsRunPage, IsRun
 
 use crate::limiting::end_of_halt;
 use crate::trying::end_of_try;
-use otp_account::{Account, play_script};
 use otp_exit::ProgramEnd;
 use otp_file::read_tree;
 use otp_sim::{Failed, Output, write_all};
-use otp_try::Clock;
+use otp_try::account::{Account, play_script};
+use otp_try::{Clock, Writer};
 use otp_try_pages::{write_timeline_page, write_try_object};
 use std::alloc::Global;
 
@@ -28,7 +28,7 @@ fn run_of<'a>(
         Ok(tree) => tree,
         Err(fault) => return Err(ProgramEnd::of_no_tree(fault, name)),
     };
-    let played = play_script(alloc, &tree, clock, script);
+    let played = play_script(alloc, &tree, clock, Writer::Script, script);
     drop(tree);
     match played {
         Ok(account) => Ok(account),

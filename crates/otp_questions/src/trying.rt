@@ -37,9 +37,13 @@ pub(crate) fn end_of_try<'a>(script: Option<&'a str>, end: TryEnd) -> ProgramEnd
     match end {
         TryEnd::Done => ProgramEnd::Done,
         TryEnd::LineRefused(line, fault) => ProgramEnd::ScriptRefused(script, line, fault),
-        TryEnd::LineMissed(line, taken) => ProgramEnd::ScriptMissed(script, line, taken),
+        TryEnd::LineMissed(line, taken, near) => ProgramEnd::ScriptMissed(
+            script, line, taken, near,
+        ),
         TryEnd::ExpectationFailed(line) => ProgramEnd::ExpectationFailed(script, line),
-        TryEnd::LeftOut(line, taken) => ProgramEnd::ScriptMissed(script, line, taken),
+        TryEnd::LeftOut(line, taken, near) => {
+            ProgramEnd::ScriptMissed(script, line, taken, near)
+        }
         TryEnd::NothingPlayed => ProgramEnd::NothingPlayed,
         TryEnd::HistoryFull => ProgramEnd::HistoryFull,
         TryEnd::InputFailed => ProgramEnd::InputFailed,

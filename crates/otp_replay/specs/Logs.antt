@@ -13,7 +13,7 @@ use Rattle.otp_replay.specs.declared.event.Said.TheVariants.{Unknown, AsInScript
 use Rattle.otp_replay.specs.declared.entry.Entry.{Entry}
 use Rattle.otp_replay.specs.declared.entry.Entry.TheVariants.{Silent, Other, Near, Event}
 use Rattle.otp_replay.specs.declared.entry.TheConstants.{LONGEST_ENTRY}
-use Rattle.otp_replay.specs.declared.reading.Counts.{Counts}
+use Rattle.otp_replay.specs.declared.reading.LogCounts.{LogCounts}
 use Rattle.otp_replay.specs.declared.reading.TheConstants.{MOST_NEAR}
 use Rattle.otp_replay.specs.declared.reading.LogFault.{LogFault}
 use Rattle.otp_replay.specs.declared.reading.LogFault.TheVariants.{GoesBack, OtherClock}
@@ -89,7 +89,7 @@ other_text number line = codes "line " ++ decimal number ++ codes ": " ++ map sh
 -- what was read of a log so far: its lines are counted, the script has a line for each, and then there are those that aren't played,
 -- the first of those that look as if they could be, and the timestamp of the first line that is played
 pub record Log : Type 0 where
-  pub counts : Counts
+  pub counts : LogCounts
   pub script : List ℕ
   pub others : List ℕ
   pub near : List NearLine
@@ -138,7 +138,7 @@ unfoldable pub first_or : Option Stamp → Stamp → Stamp
 first_or None stamp = stamp
 first_or (Some first) stamp = first
 
--- the same as it was written
+-- that timestamp as it was written
 unfoldable pub zero_or : Option Stamp → List ℕ → List ℕ → List ℕ
 zero_or None front zero = stamp_text front
 zero_or (Some first) front zero = zero

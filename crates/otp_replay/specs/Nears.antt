@@ -40,7 +40,7 @@ unfoldable pub miss_of : Option (List ℕ) → List ℕ → Miss
 miss_of None near = Time
 miss_of (Some words) near = if length words == length near then miss_in near else Between
 
--- the same in words
+-- why a line isn't played that looks so, in words
 unfoldable pub miss_text : Miss → List ℕ
 miss_text Time = codes "not a time; write seconds as 12.250, or 2026-11-26T20:49:00.125Z"
 miss_text Between = codes "other words stand between the time and what happened"

@@ -83,7 +83,7 @@ WritesLast tried end text before now =
 abbrev pub Closes : TryEnd → TryEnd → List ℕ → Option (List ℕ) → Option (List ℕ) → Type 0
 Closes Done end text before now = WritesLast Done end text before now
 Closes (ExpectationFailed line) end text before now = WritesLast (ExpectationFailed line) end text before now
-Closes (LeftOut line why) end text before now = WritesLast (LeftOut line why) end text before now
+Closes (LeftOut line why near) end text before now = WritesLast (LeftOut line why near) end text before now
 Closes NothingPlayed end text before now = WritesLast NothingPlayed end text before now
 Closes tried end text before now = (end ≡ tried) × (now ≡ before)
 

@@ -15,5 +15,5 @@ mod words;
 pub use entry::LONGEST_ENTRY;
 pub use near::Miss;
 pub use played::{ReplayEnd, Replaying, replay};
-pub use reading::{Counts, LogFault, MOST_NEAR, NearLine, Reading, read_log};
+pub use reading::{LogCounts, LogFault, MOST_NEAR, NearLine, Reading, read_log};
 pub use stamp::{MOST_SECONDS, Stamp};

@@ -33,7 +33,7 @@ pub struct NearLine {
 
 /// What is counted of a log.
 #[derive(Clone, Copy, Debug, PartialEq, Eq)]
-pub struct Counts {
+pub struct LogCounts {
     /// All lines.
     pub lines: u64,
     /// Those that are played.
@@ -231,7 +231,7 @@ fn keep_zero(first: Option<Stamp>, front: &[u8], zero: &mut Vec<u8>) -> Result<(
 /// A log, as far as it was read.
 #[derive(Drop)]
 pub struct Reading {
-    counts: Counts,
+    counts: LogCounts,
     script: Vec<u8>,
     others: Vec<u8>,
     near: Vec<NearLine>,
@@ -254,7 +254,7 @@ impl Reading {
         ensures { result ≡ no_log }
     {
         Reading {
-            counts: Counts {
+            counts: LogCounts {
                 lines: 0,
                 played: 0,
                 missed: 0,
@@ -271,7 +271,7 @@ impl Reading {
     }
 
     /// What was counted.
-    pub fn counts(&self) -> Counts
+    pub fn counts(&self) -> LogCounts
         ensures { result ≡ self.now.counts }
     {
         self.counts

@@ -46,7 +46,7 @@ ProcessesLivedFrom =
     → (slot p : ℕ) → LivesIn (step (state_after s events) e).state slot p
     → (e.number ≡ Some p) ⊎ (LivesIn (state_after s events) slot p × (EndsChild (state_after s events) e.kind p → ⊥))
 
--- and so from the state that was never opened
+-- it is so from the state that was never opened on
 abbrev pub ProcessesLived : Type 0
 ProcessesLived =
     (flags : SupFlags) (specs : List ChildSpec) (events : List Event) (e : Event) → IsLawfulHistory (empty_state flags specs) events

@@ -66,7 +66,7 @@ StepForgets =
     → ((step (older (told_before replies ends) s) e).state ≡ older (told_before replies ends) (step s e).state)
     × ((step (older (told_before replies ends) s) e).orders ≡ (step s e).orders)
 
--- and it needs a process number for the same
+-- whether an event needs a process number doesn't depend on what was answered and ended before
 abbrev pub NeedForgets : Type 0
 NeedForgets =
     (replies : List Answered) (ends : List (ℕ × SupEnd)) (s : State) (reading : ℕ) (kind : Kind)

@@ -54,7 +54,7 @@ EndEvidence =
     → IsShowing s
     → IsShowing (state_after s events) × All IsEvident (step (state_after s events) e).orders
 
--- and so from the state that was never opened
+-- it is so from the state that was never opened on
 abbrev pub EndEvidenceFromEmpty : Type 0
 EndEvidenceFromEmpty =
     (flags : SupFlags) (specs : List ChildSpec) (events : List Event) (e : Event)

@@ -132,7 +132,7 @@ KeepsHomes s e =
 abbrev pub HomesKeptFrom : Type 0
 HomesKeptFrom = (s : State) (e : Event) → IsNewNumber e.number s.rows → KeepsHomes s e
 
--- and so does, after a lawful history, each event with a number above all earlier ones, or with none
+-- after a lawful history each event does so with a number above all earlier ones, or with none
 abbrev pub HomesKept : Type 0
 HomesKept =
     (flags : SupFlags) (specs : List ChildSpec) (events : List Event) (e : Event) → IsLawfulHistory (empty_state flags specs) events

@@ -63,6 +63,6 @@ AreGiven given s = (q : ℕ) → (0 < rows_in (has_process q) s.rows) ⊎ (list_
 abbrev pub Awaits : State → Type 0
 Awaits s = is_some s.follows ≡ true → list_any (row_has is_awaited) s.rows ≡ true
 
--- and a lawful history keeps it so, from each state that is fit
+-- a lawful history keeps it so that open work awaits an answer, from each state that is fit
 abbrev pub WorkAwaits : Type 0
 WorkAwaits = (m : ℕ) (s : State) (g : Progress) (events : List Event) → IsFit m s g → Awaits s → IsLawfulFrom m s events → Awaits (state_after s events)

@@ -32,7 +32,7 @@ TicksKillLate =
     (m : ℕ) (s : State) (g : Progress) (events : List Event) (e : Event) → IsFit m s g → Awaits s → IsLawfulFrom m s events → e.kind ≡ kind.Ticked
     → All (KillsLate (state_after s events) e.reading) (step (state_after s events) e).orders
 
--- and so from the state that was never opened
+-- it is so from the state that was never opened on
 abbrev pub TicksKillLateFromEmpty : Type 0
 TicksKillLateFromEmpty =
     (flags : SupFlags) (specs : List ChildSpec) (events : List Event) (e : Event) → IsLawfulHistory (empty_state flags specs) events → e.kind ≡ kind.Ticked

@@ -46,7 +46,7 @@ EndsTellStartedFrom =
     (given : List ℕ) (s : State) (events : List Event) (p : ℕ) → AreGiven given s → IsNumbered s events
     → list_any (is_ended p) (state_after s events).waiting ≡ true → IsIn p (given ++ numbers_of events)
 
--- and from the state that was never opened, of a process that the history started
+-- it holds from the state that was never opened, too, of a process that the history started
 abbrev pub EndsTellStarted : Type 0
 EndsTellStarted =
     (flags : SupFlags) (specs : List ChildSpec) (events : List Event) (p : ℕ) → IsLawfulHistory (empty_state flags specs) events
@@ -60,7 +60,7 @@ ProcessesStayFrom =
     → (row : Row) (p : ℕ) → Contains (state_after s events).rows row → has_process p row.state ≡ true
     → HasEnded (state_after s events) e.kind p ⊎ IsHeldIn (step (state_after s events) e).state.rows row.slot p
 
--- and so from the state that was never opened
+-- it is so from the state that was never opened on
 abbrev pub ProcessesStay : Type 0
 ProcessesStay =
     (flags : SupFlags) (specs : List ChildSpec) (events : List Event) (e : Event) → IsLawfulHistory (empty_state flags specs) events
@@ -74,7 +74,7 @@ EndComesLastFrom =
     → is_over (step (state_after s events) e).state.phase ≡ true
     → (row : Row) (p : ℕ) → Contains (state_after s events).rows row → has_process p row.state ≡ true → HasEnded (state_after s events) e.kind p
 
--- and so from the state that was never opened
+-- it is so from the state that was never opened on
 abbrev pub EndComesLast : Type 0
 EndComesLast =
     (flags : SupFlags) (specs : List ChildSpec) (events : List Event) (e : Event) → IsLawfulHistory (empty_state flags specs) events
@@ -86,7 +86,7 @@ EndComesLast =
 abbrev pub EndedHasNoRowsFrom : Type 0
 EndedHasNoRowsFrom = (s : State) (events : List Event) → IsSound s → IsBare s → IsBare (state_after s events)
 
--- and so from the state that was never opened
+-- it is so from the state that was never opened on
 abbrev pub EndedHasNoRows : Type 0
 EndedHasNoRows =
     (flags : SupFlags) (specs : List ChildSpec) (events : List Event)

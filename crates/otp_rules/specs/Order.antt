@@ -84,7 +84,7 @@ StartsInOrder m s g =
 abbrev pub StopOrder : Type 0
 StopOrder = (s : State) (g : Progress) → IsInStep s g → StopsInOrder s g
 
--- and so from the state that was never opened
+-- it is so from the state that was never opened on
 abbrev pub StopOrderFromEmpty : Type 0
 StopOrderFromEmpty = (flags : SupFlags) (specs : List ChildSpec) → StopsInOrder (empty_state flags specs) (no_progress (empty_state flags specs))
 
@@ -92,7 +92,7 @@ StopOrderFromEmpty = (flags : SupFlags) (specs : List ChildSpec) → StopsInOrde
 abbrev pub StartOrder : Type 0
 StartOrder = (m : ℕ) (s : State) (g : Progress) → IsFit m s g → StartsInOrder m s g
 
--- and so from the state that was never opened
+-- it is so from the state that was never opened on
 abbrev pub StartOrderFromEmpty : Type 0
 StartOrderFromEmpty =
     (flags : SupFlags) (specs : List ChildSpec) (events : List Event) (e : Event)

@@ -14,7 +14,7 @@ ProcessesStayOwned =
     (s : State) (events : List Event) (first next : ℕ) → IsLawfulHistory s events → All (λ n. first ≤ n) (numbers_of events) → All (λ n. n < next) (numbers_of events)
     → first ≤ next → IsDistinct first s → IsDistinct next (state_after s events)
 
--- and it holds from the first event on
+-- it holds from the first event on
 abbrev pub ProcessesOwned : Type 0
 ProcessesOwned =
     (flags : SupFlags) (specs : List ChildSpec) (events : List Event) (next : ℕ) → IsLawfulHistory (empty_state flags specs) events → All (λ n. n < next) (numbers_of events)

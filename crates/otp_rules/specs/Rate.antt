@@ -55,7 +55,7 @@ RestartsCounted = (s : State) (events : List Event) → IsSound s → (state_aft
 abbrev pub RestartRate : Type 0
 RestartRate = (s : State) (events : List Event) → IsStamped s → IsRated s → IsRated (state_after s events)
 
--- and so from the state that was never opened
+-- it is so from the state that was never opened on
 abbrev pub RestartRateFromEmpty : Type 0
 RestartRateFromEmpty =
     (flags : SupFlags) (specs : List ChildSpec) (events : List Event)

@@ -46,7 +46,7 @@ stop_list rows = reverse (running rows)
 abbrev pub dues : Option ℕ → List Row → List Due
 dues kept rows = map (λ row. record { id = row.id; kept = kept }) (filter (λ row. not (is_temporary row.spec.restart)) rows)
 
--- the same from one place to another, where the child at a place between keeps the number k
+-- the children that are started again from one place to another, where the child at a place between keeps the number k
 abbrev pub restart_list : ℕ → ℕ → ℕ → ℕ → List Row → List Due
 restart_list from to place k rows =
     dues None (slice_range rows from place) ++ dues (Some k) (slice_range rows place (place + 1)) ++ dues None (slice_range rows (place + 1) to)

@@ -20,7 +20,7 @@ pub record AreSlotted (rows : List Row) : Type 0 where
 abbrev pub SlotsStayOwned : Type 0
 SlotsStayOwned = (s : State) (events : List Event) → length s.specs ≤ MAX_CHILDREN → AreSlotted s.rows → AreSlotted (state_after s events).rows
 
--- and it holds from the first event on, of each supervisor that may be opened
+-- it holds from the first event on, of each supervisor that may be opened
 abbrev pub SlotsOwned : Type 0
 SlotsOwned = (flags : SupFlags) (specs : List ChildSpec) (events : List Event) → supervisor_fault flags specs ≡ None → AreSlotted (state_after (empty_state flags specs) events).rows
 

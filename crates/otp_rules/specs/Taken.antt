@@ -70,7 +70,7 @@ WorkIsForTaken = (s : State) (events : List Event) (e : Event) → IsSound s →
 abbrev pub EndIsForTaken : Type 0
 EndIsForTaken = (s : State) (events : List Event) (e : Event) → IsSound s → EndsForTaken (state_after s events) e
 
--- and so from the state that was never opened
+-- it is so from the state that was never opened on
 abbrev pub WorkIsForTakenFromEmpty : Type 0
 WorkIsForTakenFromEmpty = (flags : SupFlags) (specs : List ChildSpec) (events : List Event) (e : Event) → OpensForTaken (state_after (empty_state flags specs) events) e
 

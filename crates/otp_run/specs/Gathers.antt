@@ -2,7 +2,7 @@
 use Rattle.std.specs.Prelude.{◌≡◌, ℕ, ◌+◌, ◌-◌, ◌*◌, ◌<◌, ◌≤◌, List, [], ◌∷◌, ◌++◌, length, map, sum_by, vec_capacity}
 use Rattle.otp_job.specs.declared.process.Ticket.{Ticket}
 use Rattle.otp_job.specs.Processes.{ProcessState}
-use Rattle.otp_run.specs.declared.rule.View.{View}
+use Rattle.otp_run.specs.declared.rule.RunView.{RunView}
 use Rattle.otp_run.specs.declared.gathering.GatherFault.{GatherFault}
 use Rattle.otp_run.specs.declared.gathering.GatherFault.TheVariants as fault
 use Rattle.otp_run.specs.declared.gathering.Room.{Room}
@@ -75,12 +75,12 @@ pub record Absorbed (old : List OwnState) (ways : List VictimState) (new : List 
   pub many : length new ≡ length old
 
 -- what was popped stands at the end of the list, and is all that was left
-pub record Popped {J S : Type 0} (v : View) (old new : List (ProcessState J S)) : Type 0 where
+pub record Popped {J S : Type 0} (v : RunView) (old new : List (ProcessState J S)) : Type 0 where
   pub popped : List (ProcessState J S)
   pub listed : new ≡ old ++ popped
   pub as_often : AsOften v.put (v.taken ++ map ticket_of popped)
 
--- the same of several deques
+-- several deques were drained into the list
 pub record DrainedInto {J S : Type 0} (homes : List OwnState) (old new : List (ProcessState J S)) : Type 0 where
   pub left : List (ProcessState J S)
   pub listed : new ≡ old ++ left

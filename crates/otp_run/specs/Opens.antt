@@ -2,7 +2,7 @@
 use Rattle.std.specs.Prelude.{◌≡◌, ℕ, ◌+◌, ◌-◌, ◌≤◌, ◌<◌, List, [], map, min}
 use Rattle.crossbeam_deque.specs.Handles.{worker_flavor, worker_view}
 use Rattle.crossbeam_deque.specs.declared.handles.Worker.{Worker}
-use Rattle.otp_run.specs.declared.rule.View.{View}
+use Rattle.otp_run.specs.declared.rule.RunView.{RunView}
 use Rattle.otp_run.specs.Rule.{whole_view, all_parts}
 use Rattle.otp_run.specs.Deques.{VictimState, fresh_victim}
 use Rattle.otp_run.specs.Schedulers.{SchedulerState, order_of}
@@ -23,7 +23,7 @@ abbrev pub opened : ℕ → ℕ → SchedulerState
 opened count index = record (unused index (all_parts + 1 - count) (map fresh_victim (order_of index count))) { count = count }
 
 -- the worker of a deque into which nothing was put
-abbrev pub IsFresh : {T A P : Type 0} → Worker T A View P → Type 0
+abbrev pub IsFresh : {T A P : Type 0} → Worker T A RunView P → Type 0
 IsFresh w = (worker_flavor w ≡ 0) × (worker_view w ≡ whole_view)
 
 -- while ways are shared out: those before the thief have theirs, and each has lent so many parts beside those to them

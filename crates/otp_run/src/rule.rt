@@ -9,7 +9,7 @@ use std::collections::LinkedList;
 pub const ALL_PARTS: u64 = 8;
 
 /// What a pass knows: its parts, what it put and what it took. No value of it is made.
-pub struct View {
+pub struct RunView {
     pub parts: u64,
     pub put: LinkedList<Ticket>,
     pub taken: LinkedList<Ticket>,
@@ -18,7 +18,7 @@ pub struct View {
 /// The rule of a deque (`specs/Rule.antt`).
 pub struct DequeRule;
 
-impl<J: Drop, S: Drop> Protocol<Process<J, S>, View> for DequeRule {
+impl<J: Drop, S: Drop> Protocol<Process<J, S>, RunView> for DequeRule {
     ghost use Rattle.std.specs.Prelude.{map};
     ghost use Rattle.otp_run.specs.Rule.{IsDeque, ticket_of, whole_view, blank_view};
 
@@ -29,16 +29,16 @@ impl<J: Drop, S: Drop> Protocol<Process<J, S>, View> for DequeRule {
     ghost guest = { blank_view };
 }
 
-pub(crate) type ProcessWorker<J, S> = Worker<Process<J, S>, Global, View, DequeRule>;
+pub(crate) type ProcessWorker<J, S> = Worker<Process<J, S>, Global, RunView, DequeRule>;
 
-pub(crate) type ProcessStealer<J, S> = Stealer<Process<J, S>, Global, View, DequeRule>;
+pub(crate) type ProcessStealer<J, S> = Stealer<Process<J, S>, Global, RunView, DequeRule>;
 
-pub(crate) type ProcessPass<J, S> = Pass<Process<J, S>, View>;
+pub(crate) type ProcessPass<J, S> = Pass<Process<J, S>, RunView>;
 
 // A push.
 pub struct Put;
 
-impl<J: Drop, S: Drop> Outcome<Process<J, S>, View> for Put {
+impl<J: Drop, S: Drop> Outcome<Process<J, S>, RunView> for Put {
     ghost use Rattle.std.specs.Prelude.{map};
     ghost use Rattle.otp_run.specs.Rule.{Puts, ticket_of};
 
@@ -48,7 +48,7 @@ impl<J: Drop, S: Drop> Outcome<Process<J, S>, View> for Put {
 // A pop or a steal.
 pub struct Taken;
 
-impl<J: Drop, S: Drop> Outcome<Process<J, S>, View> for Taken {
+impl<J: Drop, S: Drop> Outcome<Process<J, S>, RunView> for Taken {
     ghost use Rattle.std.specs.Prelude.{map};
     ghost use Rattle.otp_run.specs.Rule.{Takes, ticket_of};
 
@@ -58,7 +58,7 @@ impl<J: Drop, S: Drop> Outcome<Process<J, S>, View> for Taken {
 // A pop by a pass that has all parts: it learns that no more is taken than was put, and when nothing is left.
 pub struct Drained;
 
-impl<J: Drop, S: Drop> Outcome<Process<J, S>, View> for Drained {
+impl<J: Drop, S: Drop> Outcome<Process<J, S>, RunView> for Drained {
     ghost use Rattle.std.specs.Prelude.{map};
     ghost use Rattle.otp_run.specs.Rule.{TakesLeft, IsEmptied, ticket_of};
 
@@ -70,7 +70,7 @@ impl<J: Drop, S: Drop> Outcome<Process<J, S>, View> for Drained {
 // A count by a pass that has all parts.
 pub struct Counted;
 
-impl<J: Drop, S: Drop> Lesson<Process<J, S>, View> for Counted {
+impl<J: Drop, S: Drop> Lesson<Process<J, S>, RunView> for Counted {
     ghost use Rattle.std.specs.Prelude.{length};
     ghost use Rattle.otp_run.specs.Rule.{Counts};
 
@@ -80,7 +80,7 @@ impl<J: Drop, S: Drop> Lesson<Process<J, S>, View> for Counted {
 // One part is cut off, for a thief.
 pub struct Cut;
 
-impl Split<View> for Cut {
+impl Split<RunView> for Cut {
     ghost use Rattle.otp_run.specs.Rule.{kept_view, thief_view};
 
     ghost left = { λ v. kept_view v };
@@ -91,7 +91,7 @@ impl Split<View> for Cut {
 // A thief's pass comes home.
 pub struct Joined;
 
-impl Join<View> for Joined {
+impl Join<RunView> for Joined {
     ghost use Rattle.otp_run.specs.Rule.{joined_view, blank_view};
 
     ghost both = { λ v w. joined_view v w };

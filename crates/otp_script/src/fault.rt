@@ -3,6 +3,7 @@
 ghost use Rattle.std.specs.Prelude.{◌≡◌};
 ghost use Rattle.otp_script.specs.Faults.{fault_text, meant_text};
 
+use otp_text::Letter;
 use std::fmt;
 
 /// A word that a line may begin with, or that a person may write at the prompt.
@@ -14,6 +15,7 @@ pub enum Word {
     Exit,
     Fail,
     Ignore,
+    Init,
     Hang,
     Slow,
     Expect,
@@ -39,6 +41,22 @@ pub enum ScriptFault {
     UnknownWord,
     /// It begins with a word that is nearly this one.
     Misspelt(Word),
+    /// It begins with a word that has this letter, which looks like one of `a-z`.
+    Alike(Letter),
+    /// It begins with a word that has another letter outside of ASCII.
+    StrangeLetter,
+    /// It is no UTF-8 text.
+    NotText,
+    /// It begins as comments of other languages do.
+    OtherComment,
+    /// It begins with a time, or with a word of other languages for one.
+    TimeAlone,
+    /// It begins with a date, as a line of a log does.
+    LineOfLog,
+    /// It begins with a child or a path, and the word stands behind that.
+    WordBehind,
+    /// Something stands behind `stop`.
+    StopAlone,
     /// A time was wanted.
     BadTime,
     /// A time is larger than one may say.
@@ -49,6 +67,8 @@ pub enum ScriptFault {
     MissingChild,
     /// A child was wanted.
     BadChild,
+    /// A child was wanted, and the word has a `:` or a `,`.
+    SignedChild,
     /// A child's id was wanted, and the line ends there.
     MissingName,
     /// A child's id was wanted.
@@ -63,6 +83,8 @@ pub enum ScriptFault {
     BadExpected,
     /// The words of the call are others.
     BadCall,
+    /// The words behind `start` say no child that is new.
+    BadStart,
     /// There are more words than the line may have.
     TooManyWords,
     /// It has more than 512 bytes.
@@ -79,6 +101,18 @@ impl ScriptFault {
             ScriptFault::UnknownWord =>
                 "unknown word; otp help script lists the words, and help does at the prompt",
             ScriptFault::Misspelt(word) => word.question(),
+            ScriptFault::Alike(letter) => letter.text(),
+            ScriptFault::StrangeLetter => "unknown word: it has a letter outside of ASCII",
+            ScriptFault::NotText => "not UTF-8: save the file as UTF-8",
+            ScriptFault::OtherComment => "unknown word; a comment begins with #",
+            ScriptFault::TimeAlone =>
+                "unknown word; a time is written at 5s, or +5s for so long after the line before",
+            ScriptFault::LineOfLog =>
+                "unknown word; this looks like a line of a log, which otp replay FILE LOG plays",
+            ScriptFault::WordBehind =>
+                "unknown word; what happens comes first, as in crash db, or behind a path, as in pool/ stop",
+            ScriptFault::StopAlone =>
+                "stop stands alone; terminate ID stops a child, and PATH/ stop the supervisor there",
             ScriptFault::BadTime =>
                 "not a time: write one like 10s, 1.5s, 500ms, 2m, 1h, or 500 (milliseconds)",
             ScriptFault::LargeTime => "too large a time: write at most 1000000000000s",
@@ -88,6 +122,8 @@ impl ScriptFault {
                 "a child is missing: write its id, or a process number like #3",
             ScriptFault::BadChild =>
                 "not a child: write its id, or a process number like #3, and a space behind it",
+            ScriptFault::SignedChild =>
+                "not a child: no : or , stands behind it; a reason follows behind a space, as in crash db error:TEXT",
             ScriptFault::MissingName =>
                 "a child's id is missing: write 1 to 32 bytes of a-z A-Z 0-9 _ - .",
             ScriptFault::BadName => "not a child's id: write 1 to 32 bytes of a-z A-Z 0-9 _ - .",
@@ -100,7 +136,9 @@ impl ScriptFault {
             ScriptFault::BadExpected =>
                 "not expected so: write expect up, expect end, both also with ID, or expect restarts ID N",
             ScriptFault::BadCall =>
-                "other words stand behind this call; otp help script shows its form",
+                "other words stand behind this call; write which, count, get ID, restart ID, terminate ID, delete ID or start ID START RESTART SIGNIFICANT SHUTDOWN TYPE",
+            ScriptFault::BadStart =>
+                "start adds a child: start ID START RESTART SIGNIFICANT SHUTDOWN TYPE; restart ID starts one that has ended",
             ScriptFault::TooManyWords =>
                 "more words than the line may have; a comment begins with # after a blank",
             ScriptFault::TooLong => "more than 512 bytes",
@@ -118,6 +156,7 @@ impl Word {
             Word::Exit => "exit",
             Word::Fail => "fail",
             Word::Ignore => "ignore",
+            Word::Init => "init",
             Word::Hang => "hang",
             Word::Slow => "slow",
             Word::Expect => "expect",
@@ -149,6 +188,7 @@ impl Word {
             Word::Exit => "unknown word: did you mean exit?",
             Word::Fail => "unknown word: did you mean fail?",
             Word::Ignore => "unknown word: did you mean ignore?",
+            Word::Init => "unknown word: did you mean init?",
             Word::Hang => "unknown word: did you mean hang?",
             Word::Slow => "unknown word: did you mean slow?",
             Word::Expect => "unknown word: did you mean expect?",

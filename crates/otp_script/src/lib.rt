@@ -5,13 +5,16 @@
 
 pub mod fault;
 mod near;
+mod nearest;
 mod read;
+mod spaced;
 pub mod step;
 mod time;
 mod words;
 
 pub use fault::{ScriptFault, Word};
 pub use near::meant;
+pub use nearest::Nearest;
 pub use read::read_step;
 pub use step::{Action, Child, Expected, NextStart, Step, When};
 pub use words::{is_text, next_word, strip_return};

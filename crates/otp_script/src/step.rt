@@ -54,6 +54,8 @@ pub enum Action {
     Exit(Child, Reason),
     /// The next start of the child with this id answers so.
     Start(Name, NextStart),
+    /// Each start of the child with this id takes so many milliseconds from now on.
+    Init(Name, u64),
     /// The child doesn't end when it is next asked to shut down.
     Hang(Child),
     /// The child ends so many milliseconds after it is next asked to shut down.

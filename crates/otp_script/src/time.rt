@@ -1,8 +1,10 @@
 //! Times as a script writes them: each form in which the program prints one.
 
-ghost use Rattle.std.specs.Prelude.{◌≡◌, ◌<◌, ◌≤◌, IfOk, IfSome, Some, length, option_map};
-ghost use Rattle.otp_script.specs.Times.{digit_value, is_no_digit, milliseconds_in, most_of, scaled, thousandths_in, unit_of};
-ghost use Rattle.otp_text.specs.Words.{number_up_to};
+ghost use Rattle.std.specs.Prelude.{◌≡◌, ◌==◌, ◌<◌, ◌≤◌, IfSome, length, not, position};
+ghost use Rattle.std.specs.List.{list_all};
+ghost use Rattle.otp_script.specs.Read.{read_as};
+ghost use Rattle.otp_script.specs.Times.{digit_value, fault_of_number, is_no_digit, is_of_number, milliseconds_in, most_of, next_time, next_unit, split_unit, thousandths_in, time_and, time_before, time_counted, time_in, time_of, time_with, unit_of};
+ghost use Rattle.otp_text.specs.Words.{is_digit};
 
 use crate::fault::ScriptFault;
 use crate::words::{is_text, next_word};
@@ -67,19 +69,26 @@ impl Unit {
 }
 
 /// Whether the byte belongs to the number of a time.
-fn is_of_number(byte: u8) -> bool {
+#[tactic(auto, unfolding(crate::specs::Times::is_of_number))]
+fn is_of_number(byte: u8) -> bool
+    ensures { result ≡ is_of_number byte }
+{
     byte.is_ascii_digit() || byte == b'.'
 }
 
 /// The place of the first byte of a unit.
 fn place_of_unit(word: &[u8]) -> Option<usize>
-    ensures { IfSome result (λ place. place ≤ length word.now) }
+    ensures place { result ≡ position (λ byte. not (is_of_number byte)) word.now }
+    ensures inside { IfSome result (λ place. place < length word.now) }
 {
     word.iter().position(|byte| !is_of_number(*byte))
 }
 
 /// A word as its number, and what stands behind that.
-fn split_unit(word: &[u8]) -> (&[u8], &[u8]) {
+#[tactic(auto, unfolding(crate::specs::Times::split_unit, crate::specs::Times::split_at))]
+fn split_unit(word: &[u8]) -> (&[u8], &[u8])
+    ensures { (result.0.now, result.1.now) ≡ split_unit word.now }
+{
     match place_of_unit(word) {
         None => (word, &[]),
         Some(place) => (&word[..place], &word[place..]),
@@ -88,7 +97,8 @@ fn split_unit(word: &[u8]) -> (&[u8], &[u8]) {
 
 /// The place of the point of a number.
 fn place_of_point(number: &[u8]) -> Option<usize>
-    ensures { IfSome result (λ place. place < length number.now) }
+    ensures place { result ≡ position (λ byte. byte == 46) number.now }
+    ensures inside { IfSome result (λ place. place < length number.now) }
 {
     number.iter().position(|byte| *byte == b'.')
 }
@@ -131,9 +141,9 @@ fn thousandths(digits: &[u8]) -> Option<u64>
 }
 
 /// So many of this unit, in milliseconds.
-#[tactic(auto, unfolding(crate::specs::Times::scaled))]
+#[tactic(auto, unfolding(crate::specs::Times::time_of, crate::specs::Times::scaled))]
 fn time_of(number: &[u8], unit: Unit) -> Result<u64, ScriptFault>
-    ensures { IfOk result (λ time. option_map (scaled unit) (number_up_to (most_of unit) number.now) ≡ Some time) }
+    ensures { result ≡ time_of number.now unit }
 {
     match read_number(unit.most(), number) {
         Some(count) => Ok(count.saturating_mul(unit.milliseconds())),
@@ -141,21 +151,46 @@ fn time_of(number: &[u8], unit: Unit) -> Result<u64, ScriptFault>
     }
 }
 
+/// Whether each byte is a digit.
+fn are_digits(digits: &[u8]) -> bool
+    ensures { result ≡ list_all is_digit digits.now }
+{
+    digits.iter().all(|byte| matches!(byte, b'0'..=b'9'))
+}
+
 /// Why the digits of a time can't be read: they say too much, or no number.
-fn fault_of_number(digits: &[u8]) -> ScriptFault {
+#[tactic(auto, unfolding(crate::specs::Times::fault_of_number))]
+fn fault_of_number(digits: &[u8]) -> ScriptFault
+    ensures { result ≡ fault_of_number digits.now }
+{
     match digits {
-        [b'1'..=b'9', others @ ..] if others.iter().all(|byte| byte.is_ascii_digit()) => {
-            ScriptFault::LargeTime
+        [] => ScriptFault::BadTime,
+        [first, others @ ..] => {
+            if matches!(*first, b'1'..=b'9') && are_digits(others) {
+                ScriptFault::LargeTime
+            } else {
+                ScriptFault::BadTime
+            }
         }
-        _ => ScriptFault::BadTime,
     }
 }
 
 /// So many of this unit and a fraction of it, in milliseconds. A millisecond has no fraction.
-fn time_with(whole: &[u8], fraction: &[u8], unit: Unit) -> Result<u64, ScriptFault> {
-    if unit == Unit::Millisecond {
-        return Err(ScriptFault::BadTime);
+#[tactic(auto, unfolding(crate::specs::Times::time_with))]
+fn time_with(whole: &[u8], fraction: &[u8], unit: Unit) -> Result<u64, ScriptFault>
+    ensures { result ≡ time_with whole.now fraction.now unit }
+{
+    match unit {
+        Unit::Millisecond => Err(ScriptFault::BadTime),
+        unit => time_and(whole, fraction, unit),
     }
+}
+
+/// So many of this unit and a fraction of it, in milliseconds.
+#[tactic(auto, unfolding(crate::specs::Times::time_and, crate::specs::Times::with_thousandths))]
+fn time_and(whole: &[u8], fraction: &[u8], unit: Unit) -> Result<u64, ScriptFault>
+    ensures { result ≡ time_and whole.now fraction.now unit }
+{
     let time = time_of(whole, unit)?;
     match thousandths(fraction) {
         None => Err(ScriptFault::BadTime),
@@ -164,29 +199,51 @@ fn time_with(whole: &[u8], fraction: &[u8], unit: Unit) -> Result<u64, ScriptFau
 }
 
 /// The time that a number says, which may have a point.
-fn read_count(number: &[u8], unit: Unit) -> Result<u64, ScriptFault> {
+#[tactic(auto, unfolding(crate::specs::Times::time_counted, crate::specs::Times::time_at_point))]
+fn read_count(number: &[u8], unit: Unit) -> Result<u64, ScriptFault>
+    ensures { result ≡ time_counted number.now unit }
+{
     match place_of_point(number) {
         None => time_of(number, unit),
         Some(place) => time_with(&number[..place], &number[place + 1..], unit),
     }
 }
 
+/// The time of so many of this unit, and what is left of the line behind it.
+#[tactic(auto, unfolding(crate::specs::Times::time_before))]
+fn time_before<'a>(
+    number: &[u8],
+    unit: Unit,
+    rest: &'a [u8],
+) -> Result<(u64, &'a [u8]), ScriptFault>
+    ensures { read_as (λ time. (time.0, time.1.now)) result ≡ time_before number.now unit rest.now }
+{
+    let time = read_count(number, unit)?;
+    Ok((time, rest))
+}
+
 /// A time whose number stands at the beginning of a word: its unit stands there too, or is the next word. Without a unit it
 /// is of milliseconds. The second is what is left of the line after the word, and then after the time.
-pub(crate) fn read_time<'a>(word: &[u8], rest: &'a [u8]) -> Result<(u64, &'a [u8]), ScriptFault> {
+#[tactic(auto, unfolding(crate::specs::Times::time_in, crate::specs::Times::time_split))]
+pub(crate) fn read_time<'a>(word: &[u8], rest: &'a [u8]) -> Result<(u64, &'a [u8]), ScriptFault>
+    ensures { read_as (λ time. (time.0, time.1.now)) result ≡ time_in word.now rest.now }
+{
     let (number, unit) = split_unit(word);
-    if !unit.is_empty() {
-        let Some(unit) = Unit::of_word(unit) else {
-            return Err(ScriptFault::BadTime);
-        };
-        return Ok((read_count(number, unit)?, rest));
+    if unit.is_empty() {
+        let (unit, rest) = next_unit(rest);
+        return time_before(number, unit, rest);
     }
-    let (unit, rest) = next_unit(rest);
-    Ok((read_count(number, unit)?, rest))
+    match Unit::of_word(unit) {
+        None => Err(ScriptFault::BadTime),
+        Some(unit) => time_before(number, unit, rest),
+    }
 }
 
 /// The unit that is the next word, and what is left after it; milliseconds where the next word is none.
-fn next_unit(line: &[u8]) -> (Unit, &[u8]) {
+#[tactic(auto, unfolding(crate::specs::Times::next_unit, crate::specs::Times::unit_found, crate::specs::Times::unit_or))]
+fn next_unit(line: &[u8]) -> (Unit, &[u8])
+    ensures { (result.0, result.1.now) ≡ next_unit line.now }
+{
     let Some((word, rest)) = next_word(line) else {
         return (Unit::Millisecond, line);
     };
@@ -197,7 +254,10 @@ fn next_unit(line: &[u8]) -> (Unit, &[u8]) {
 }
 
 /// A time that stands next on a line, and what is left after it.
-pub(crate) fn next_time(line: &[u8]) -> Result<(u64, &[u8]), ScriptFault> {
+#[tactic(auto, unfolding(crate::specs::Times::next_time, crate::specs::Times::time_found))]
+pub(crate) fn next_time(line: &[u8]) -> Result<(u64, &[u8]), ScriptFault>
+    ensures { read_as (λ time. (time.0, time.1.now)) result ≡ next_time line.now }
+{
     match next_word(line) {
         None => Err(ScriptFault::BadTime),
         Some((word, rest)) => read_time(word, rest),

@@ -1,10 +1,8 @@
 //! Words of a line: what stands between spaces and tabs.
 
-ghost use Rattle.std.specs.Prelude.{◌≡◌, ◌<◌, ◌≤◌, IfSome, length, not, option_map, position};
+ghost use Rattle.std.specs.Prelude.{◌≡◌, ◌<◌, ◌≤◌, IfSome, drop, length, not, option_copied, option_map, position};
 ghost use Rattle.std.specs.Str.{bytes_eq};
-ghost use Rattle.otp_script.specs.Spaced.{is_space, word_in, word_to};
-
-use otp_text::LONGEST_LINE;
+ghost use Rattle.otp_script.specs.Spaced.{begins_comment, begins_digit, behind, end_after_last, is_space, without_comment, word_in, word_to};
 
 /// Whether the word is this text.
 pub fn is_text(word: &[u8], text: &[u8]) -> bool
@@ -15,7 +13,7 @@ pub fn is_text(word: &[u8], text: &[u8]) -> bool
 
 /// Whether the byte stands between words.
 #[tactic(auto, unfolding(crate::specs::Spaced::is_space))]
-fn is_space(byte: u8) -> bool
+pub(crate) fn is_space(byte: u8) -> bool
     ensures { result ≡ is_space byte }
 {
     matches!(byte, b' ' | b'\t' | b'\r')
@@ -37,22 +35,10 @@ fn first_letter(line: &[u8]) -> Option<usize>
     line.iter().position(|byte| !is_space(*byte))
 }
 
-/// The place after the last byte of a word, or 0 where there is none.
-fn end_of_words(line: &[u8]) -> usize
-    ensures { result ≤ length line.now }
-{
-    let mut end = 0;
-    for place in 0..line.len() {
-        if !is_space(line[place]) {
-            end = place + 1;
-        }
-    }
-    end
-}
-
 /// The place after the last such byte, or 0 where there is none.
 fn end_after_last(text: &[u8], byte: u8) -> usize
-    ensures { result ≤ length text.now }
+    ensures place { result ≡ end_after_last byte text.now }
+    ensures inside { result ≤ length text.now }
 {
     let mut end = 0;
     for place in 0..text.len() {
@@ -65,25 +51,55 @@ fn end_after_last(text: &[u8], byte: u8) -> usize
 
 /// The place after the last `/`, or 0 where there is none.
 pub(crate) fn end_of_path(word: &[u8]) -> usize
-    ensures { result ≤ length word.now }
+    ensures place { result ≡ end_after_last 47 word.now }
+    ensures inside { result ≤ length word.now }
 {
     end_after_last(word, b'/')
 }
 
+/// What stands behind this text at the beginning of a word.
+#[tactic(auto, unfolding(crate::specs::Spaced::behind))]
+pub(crate) fn behind<'a>(text: &[u8], word: &'a [u8]) -> Option<&'a [u8]>
+    ensures { option_copied result ≡ behind text.now word.now }
+{
+    word.strip_prefix(text)
+}
+
 /// Whether a digit comes next.
-fn is_digit_next(rest: &[u8]) -> bool {
+fn is_digit_next(rest: &[u8]) -> bool
+    ensures { result ≡ begins_digit rest.now }
+{
     match rest.first() {
         Some(byte) => byte.is_ascii_digit(),
         None => false,
     }
 }
 
-/// The line without its comment, which begins with a `#` that has a space before it and no digit behind it: `#3` is a
-/// process.
-pub(crate) fn strip_comment(line: &[u8]) -> &[u8] {
+/// Whether a comment comes next: a `#` with no digit behind it, since `#3` is a process.
+#[tactic(auto, unfolding(crate::specs::Spaced::begins_comment))]
+fn is_comment_next(rest: &[u8]) -> bool
+    ensures { result ≡ begins_comment rest.now }
+{
+    match rest {
+        [b'#', rest @ ..] => !is_digit_next(rest),
+        _ => false,
+    }
+}
+
+/// What stands from a place on.
+fn from(line: &[u8], place: usize) -> &[u8]
+    requires { place ≤ length line.now }
+    ensures { result.now ≡ drop place line.now }
+{
+    &line[place..]
+}
+
+/// The line without its comment, which has a space before it.
+pub(crate) fn strip_comment(line: &[u8]) -> &[u8]
+    ensures { result.now ≡ without_comment line.now }
+{
     for place in 1..line.len() {
-        let is_apart = line[place] == b'#' && is_space(line[place - 1]);
-        if is_apart && !is_digit_next(&line[place + 1..]) {
+        if is_space(line[place - 1]) && is_comment_next(from(line, place)) {
             return &line[..place];
         }
     }
@@ -93,53 +109,6 @@ pub(crate) fn strip_comment(line: &[u8]) -> &[u8] {
 /// The line without the CR that stands before its LF.
 pub fn strip_return(line: &[u8]) -> &[u8] {
     line.strip_suffix(b"\r").unwrap_or(line)
-}
-
-/// The words of a line with one space between, as a line of `sim` has them.
-#[derive(Drop)]
-pub(crate) struct Spaced {
-    bytes: [u8; LONGEST_LINE],
-    length: usize,
-}
-
-impl Spaced {
-    /// The words of a line, which is no longer than a line of `sim` may be.
-    pub fn of(line: &[u8]) -> Self {
-        let mut spaced = Spaced {
-            bytes: [0; LONGEST_LINE],
-            length: 0,
-        };
-        let mut is_apart = false;
-        for byte in line {
-            if is_space(*byte) {
-                is_apart = spaced.length > 0;
-                continue;
-            }
-            if is_apart {
-                spaced.push(b' ');
-            }
-            spaced.push(*byte);
-            is_apart = false;
-        }
-        spaced
-    }
-
-    /// Puts a byte behind the others, where there is room.
-    fn push(&mut self, byte: u8) {
-        if let Some(room) = self.bytes.get_mut(self.length) {
-            *room = byte;
-            self.length = self.length.saturating_add(1);
-        }
-    }
-
-    pub fn as_slice(&self) -> &[u8] {
-        self.bytes.get(..self.length).unwrap_or(&[])
-    }
-}
-
-/// The line without what stands after its last word.
-pub(crate) fn strip_end(line: &[u8]) -> &[u8] {
-    &line[..end_of_words(line)]
 }
 
 /// The first word, which has at least one byte, and what stands after it; `None` where there is none.

@@ -76,7 +76,7 @@ abbrev pub ended_after : Option ℕ → List Stop → Option ℕ
 ended_after time [] = time
 ended_after time (stop ∷ stops) = ended_after (later time stop.shutdown) stops
 
--- the same of those that have a limit: one without adds nothing
+-- by when those of these have ended that have a limit: one without adds nothing
 abbrev pub sum_from : ℕ → List Stop → ℕ
 sum_from time [] = time
 sum_from time (stop ∷ stops) = sum_from (unwrap_or (later (Some time) stop.shutdown) time) stops

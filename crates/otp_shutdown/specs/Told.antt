@@ -3,7 +3,7 @@ use Rattle.std.specs.Prelude.{◌≡◌, ℕ, ◌-◌, Bool, true, false, List, 
 use Rattle.otp_file.specs.Trees.{Tree}
 use Rattle.otp_spec.specs.declared.child.Shutdown.{Shutdown}
 use Rattle.otp_spec.specs.declared.child.Shutdown.TheVariants.{BrutalKill, Milliseconds, Infinity}
-use Rattle.otp_timeline.specs.Seconds.{seconds_text}
+use Rattle.otp_text.specs.Seconds.{seconds_text}
 use Rattle.otp_shutdown.specs.Columns.{at_left, at_right, clip}
 use Rattle.otp_shutdown.specs.Stops.{AreStops, count_endless, first_endless, later, sum_from}
 use Rattle.otp_shutdown.specs.declared.stop.Stop.{Stop}

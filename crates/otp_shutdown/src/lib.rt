@@ -10,6 +10,6 @@ mod stop;
 mod stops;
 mod told;
 
-pub use stop::{Path, Stop, Stops};
+pub use stop::{ChildPath, Stop, Stops};
 pub use stops::find_stops;
 pub use told::{ended_after, write_longest_stop};

@@ -11,11 +11,11 @@ use std::marker::Model;
 /// The name of a child of a tree: the ids of the supervisors from the root's child on, each with a `/` behind it, and its own id.
 /// Contracts see its bytes.
 #[derive(Debug, Drop)]
-pub struct Path {
+pub struct ChildPath {
     bytes: Vec<u8>,
 }
 
-impl Model for Path {
+impl Model for ChildPath {
     ghost use Rattle.std.specs.Prelude.{ℕ, List};
 
     ghost Value = { List ℕ };
@@ -23,7 +23,7 @@ impl Model for Path {
     ghost view = { λ a. a.bytes.items };
 }
 
-impl Path {
+impl ChildPath {
     ghost use Rattle.std.specs.Prelude.{◌≡◌, IfOk};
 
     /// A copy of these bytes.
@@ -32,7 +32,7 @@ impl Path {
     {
         let mut copy = Vec::new(alloc);
         copy.extend_from_slice(bytes)?;
-        Ok(Path { bytes: copy })
+        Ok(ChildPath { bytes: copy })
     }
 
     pub fn as_bytes(&self) -> &[u8]
@@ -46,7 +46,7 @@ impl Path {
 #[derive(Debug, Drop)]
 pub struct Stop {
     /// The child.
-    pub name: Path,
+    pub name: ChildPath,
     /// How it is told to stop, and how long its supervisor waits for it.
     pub shutdown: Shutdown,
     /// It stands for all children of a supervisor of simple_one_for_one, which are told together.
@@ -96,13 +96,13 @@ impl Stops {
 }
 
 /// The name of a child whose supervisor's children have this path.
-pub(crate) fn name_of(alloc: Global, path: &[u8], id: &Name) -> Result<Path, AllocError>
+pub(crate) fn name_of(alloc: Global, path: &[u8], id: &Name) -> Result<ChildPath, AllocError>
     ensures { IfOk result (λ name. name ≡ path.now ++ name_bytes id.now) }
 {
     let mut name = Vec::new(alloc);
     name.extend_from_slice(path)?;
     name.extend_from_slice(id.as_bytes())?;
-    Path::copy_of(alloc, name.as_slice())
+    ChildPath::copy_of(alloc, name.as_slice())
 }
 
 /// A copy.
@@ -110,7 +110,7 @@ fn copy_of(alloc: Global, stop: &Stop) -> Result<Stop, AllocError>
     ensures { IfOk result (λ copy. copy ≡ stop.now) }
 {
     Ok(Stop {
-        name: Path::copy_of(alloc, stop.name.as_bytes())?,
+        name: ChildPath::copy_of(alloc, stop.name.as_bytes())?,
         shutdown: stop.shutdown,
         is_shared: stop.is_shared,
     })

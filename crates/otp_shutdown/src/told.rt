@@ -10,8 +10,8 @@ use crate::stop::Stop;
 use crate::stops::find_stops;
 use otp_file::TreeSpec;
 use otp_spec::{MAX_READING, Shutdown};
+use otp_text::timeline::write_seconds;
 use otp_text::write_number;
-use otp_timeline::write_seconds;
 use std::alloc::{AllocError, Global};
 
 /// By when a child has ended that is told to stop at this time, where it has a limit.

@@ -8,7 +8,7 @@ use native.Mathlib.Decide.{ℕ_discrete}
 use lib.ListN.{get_elem?}
 use Rattle.atomic_table.specs.Table.{step, keeps, Allows}
 use Rattle.otp_signals.specs.declared.signal.TheConstants.{NUMBER_LIMIT}
-use Rattle.otp_signals.specs.declared.view.View.{View}
+use Rattle.otp_signals.specs.declared.view.SignalsView.{SignalsView}
 use Rattle.otp_signals.specs.Lists.{numbers_to, AsOften, AllIn, NoneInBoth, Above, Below, Rises, Stands, merge}
 use Rattle.otp_signals.specs.Rules.{NumberRule, KeepsRules, Learns}
 use Rattle.otp_tally.proofs.Sums.{one_le_sum_by}
@@ -26,22 +26,22 @@ length-numbers_to zero = refl
 length-numbers_to (suc n) = let p = length-numbers_to n in omega (arith, length-append (numbers_to n) (suc n ∷ []))
 
 -- an owner drew at most the numbers below the counter
-drawn_few : (c : ℕ) (views : List View) (id : ℕ) (v : View) → get_elem? views id ≡ some v → NumberRule c views → length v.holding.drawn ≤ c - 1
+drawn_few : (c : ℕ) (views : List SignalsView) (id : ℕ) (v : SignalsView) → get_elem? views id ≡ some v → NumberRule c views → length v.holding.drawn ≤ c - 1
 drawn_few c views id v at k =
-    let p = one_le_sum_by (λ (u : View). sum_by (λ _. 1) u.holding.drawn) views id v at in
+    let p = one_le_sum_by (λ (u : SignalsView). sum_by (λ _. 1) u.holding.drawn) views id v at in
     let a = weigh_all (λ _. 1) views in
     let o = k.once (λ _. 1) in
     omega (arith, count_all v.holding.drawn, count_all (numbers_to (c - 1)), length-numbers_to (c - 1))
 
-owner_room : (c : ℕ) (views : List View) (id : ℕ) (v : View) → get_elem? views id ≡ some v → NumberRule c views → length v.holding.drawn + v.holding.quota < NUMBER_LIMIT
+owner_room : (c : ℕ) (views : List SignalsView) (id : ℕ) (v : SignalsView) → get_elem? views id ≡ some v → NumberRule c views → length v.holding.drawn + v.holding.quota < NUMBER_LIMIT
 owner_room c views id v at k =
     let p = drawn_few c views id v at k in
-    let q = one_le_sum_by (λ (u : View). u.holding.quota) views id v at in
+    let q = one_le_sum_by (λ (u : SignalsView). u.holding.quota) views id v at in
     let r = k.room in
     let b = k.begins in
     omega arith
 
-pub learns : (slots homes id : ℕ) (v : View) (cs : List (ℕ × ℕ)) → Allows (KeepsRules slots) homes id (v, cs) 0 (λ n. n) (Learns (step homes 0 0 0 none) (v, cs))
+pub learns : (slots homes id : ℕ) (v : SignalsView) (cs : List (ℕ × ℕ)) → Allows (KeepsRules slots) homes id (v, cs) 0 (λ n. n) (Learns (step homes 0 0 0 none) (v, cs))
 learns slots homes id v cs s k no_homes at small =
     (v, keeps, tt, loaded slots id v s k at, (refl, (k.numbers.rises id v at).0, owner_room (slice_index s.words 0) s.views id v at k.numbers))
 
@@ -138,16 +138,16 @@ zero_not_drawn zero = refl
 zero_not_drawn (suc n) = let p = zero_not_drawn n in let q = is-else 0 (suc n) (λ e. absurd (omega arith)) in omega (arith, sum_by-append (is 0) (numbers_to n) (suc n ∷ []), sum_by-cons (is 0) (suc n) [])
 
 -- an owner that has the whole first quota drew every number below the counter
-pub whole : (c : ℕ) (views : List View) (id : ℕ) (v : View) → get_elem? views id ≡ some v → NumberRule c views → length v.holding.drawn + v.holding.quota ≡ NUMBER_LIMIT - 1
+pub whole : (c : ℕ) (views : List SignalsView) (id : ℕ) (v : SignalsView) → get_elem? views id ≡ some v → NumberRule c views → length v.holding.drawn + v.holding.quota ≡ NUMBER_LIMIT - 1
     → (v.holding.drawn ≡ numbers_to (length v.holding.drawn)) × (c ≡ length v.holding.drawn + 1)
 whole c views id v at k all =
     let xs : List ℕ = v.holding.drawn in
     let p = drawn_few c views id v at k in
-    let q = one_le_sum_by (λ (u : View). u.holding.quota) views id v at in
+    let q = one_le_sum_by (λ (u : SignalsView). u.holding.quota) views id v at in
     let b = k.begins in
     let room = k.room in
     let e : c ≡ length xs + 1 = omega arith in
-    let s = one_le_sum_by (λ (u : View). sum_by (is 0) u.holding.drawn) views id v at in
+    let s = one_le_sum_by (λ (u : SignalsView). sum_by (is 0) u.holding.drawn) views id v at in
     let a = weigh_all (is 0) views in
     let o = k.once (is 0) in
     let z = zero_not_drawn (c - 1) in

@@ -8,7 +8,7 @@ use native.Mathlib.Decide.{ℕ_discrete, dec_le}
 use lib.ListN.{get_elem?}
 use Rattle.atomic_table.specs.Table.{Joins}
 use Rattle.atomic_table.proofs.Lists.{at_set, set_here, set_else}
-use Rattle.otp_signals.specs.declared.view.View.{View}
+use Rattle.otp_signals.specs.declared.view.SignalsView.{SignalsView}
 use Rattle.otp_signals.specs.Lists.{numbers_to, Below, Above, Rises, Stands, has, words_at, with_number, merge}
 use Rattle.otp_signals.specs.Rules.{blank_view, joined_view, NumberRule, Owns, Saw, KeepsRules}
 use Rattle.otp_tally.proofs.Sums.{sum_by-set, one_le_sum_by}
@@ -109,9 +109,9 @@ stands_counts x [] s = absurd s
 stands_counts x (y ∷ ys) s = let c = sum_by-cons (is x) y ys in ⊎_elim (λ (e : x ≡ y). let p = is-same x y e in omega arith) (λ (r : Stands x ys). let p = stands_counts x ys r in omega arith) s
 
 -- two owners drew no number in common
-apart : (views : List View) (id other c : ℕ) (v w : View) → get_elem? views id ≡ some v → other ≢ id → get_elem? views other ≡ some w → NumberRule c views → (z : ℕ) → Stands z v.holding.drawn → Stands z w.holding.drawn → ⊥
+apart : (views : List SignalsView) (id other c : ℕ) (v w : SignalsView) → get_elem? views id ≡ some v → other ≢ id → get_elem? views other ≡ some w → NumberRule c views → (z : ℕ) → Stands z v.holding.drawn → Stands z w.holding.drawn → ⊥
 apart views id other c v w at ne there k z s t =
-    let f : View → ℕ = λ u. sum_by (is z) u.holding.drawn in
+    let f : SignalsView → ℕ = λ u. sum_by (is z) u.holding.drawn in
     let a = sum_by-set f views id v blank_view at in
     let b = one_le_sum_by f (set views id blank_view) other w (set_else views id other blank_view ne ∙ there) in
     let o = k.once (is z) in
@@ -147,19 +147,19 @@ cases false = inr refl
 no_both : (b : Bool) → b ≡ true → b ≡ false → ⊥
 no_both b t f = true≢false (sym t ∙ f)
 
-within : (l : List View) (i : ℕ) (v : View) → get_elem? l i ≡ some v → i < length l
+within : (l : List SignalsView) (i : ℕ) (v : SignalsView) → get_elem? l i ≡ some v → i < length l
 within [] i v e = absurd (some-ne-none v (sym e))
 within (x ∷ xs) zero v e = omega arith
 within (x ∷ xs) (suc i) v e = let p = within xs i v e in omega arith
 
 -- what holds of each view after two have changed
-pub each_two : (F : ℕ → View → Type 0) (views : List View) (id other : ℕ) (b z : View) → F id b → F other z → ((j : ℕ) (u : View) → j ≢ id → j ≢ other → get_elem? views j ≡ some u → F j u)
-    → (j : ℕ) (u : View) → get_elem? (set (set views id b) other z) j ≡ some u → F j u
+pub each_two : (F : ℕ → SignalsView → Type 0) (views : List SignalsView) (id other : ℕ) (b z : SignalsView) → F id b → F other z → ((j : ℕ) (u : SignalsView) → j ≢ id → j ≢ other → get_elem? views j ≡ some u → F j u)
+    → (j : ℕ) (u : SignalsView) → get_elem? (set (set views id b) other z) j ≡ some u → F j u
 each_two F views id other b z mine theirs others j u e =
     ⊎_elim
-    (λ (x : (j ≡ other) × (z ≡ u)). subst (λ (y : ℕ × View). F y.0 y.1) (λ i. (sym x.0 i, x.1 i)) theirs)
+    (λ (x : (j ≡ other) × (z ≡ u)). subst (λ (y : ℕ × SignalsView). F y.0 y.1) (λ i. (sym x.0 i, x.1 i)) theirs)
     (λ (x : (j ≢ other) × (get_elem? (set views id b) j ≡ some u)). ⊎_elim
-    (λ (y : (j ≡ id) × (b ≡ u)). subst (λ (p : ℕ × View). F p.0 p.1) (λ i. (sym y.0 i, y.1 i)) mine)
+    (λ (y : (j ≡ id) × (b ≡ u)). subst (λ (p : ℕ × SignalsView). F p.0 p.1) (λ i. (sym y.0 i, y.1 i)) mine)
     (λ (y : (j ≢ id) × (get_elem? views j ≡ some u)). others j u y.0 x.0 y.1)
     (at_set views id j b u x.1))
     (at_set (set views id b) other j z u e)
@@ -175,9 +175,9 @@ owner_else : (owner : ℕ → ℕ) (slots : List ℕ) (id s : ℕ) → has s slo
 unfolding owner_joined
 owner_else owner slots id s h = ap (λ b. cond b id (owner s)) h
 
-pub joins : (slots id : ℕ) (v : View) (other : ℕ) (w : View) → Joins {S = ℕ} (KeepsRules slots) id v other w (joined_view v w) blank_view
+pub joins : (slots id : ℕ) (v : SignalsView) (other : ℕ) (w : SignalsView) → Joins {S = ℕ} (KeepsRules slots) id v other w (joined_view v w) blank_view
 joins slots id v other w s k at ne there' =
-    let b : View = joined_view v w in
+    let b : SignalsView = joined_view v w in
     let there : get_elem? s.views other ≡ some w = ⊎_elim (λ (t : (other ≡ id) × (b ≡ w)). absurd (ne t.0)) (λ (t : (other ≢ id) × (get_elem? s.views other ≡ some w)). t.1) (at_set s.views id other b w there') in
     let n = k.numbers in
     let c : ℕ = slice_index s.words 0 in
@@ -192,7 +192,7 @@ joins slots id v other w s k at ne there' =
       numbers = record {
         begins = n.begins;
         once = λ h.
-            let f : View → ℕ = λ u. sum_by h u.holding.drawn in
+            let f : SignalsView → ℕ = λ u. sum_by h u.holding.drawn in
             let x = sum_by-set f s.views id v b at in
             let y = sum_by-set f (set s.views id b) other w blank_view there' in
             let p = weigh_all h s.views in
@@ -205,7 +205,7 @@ joins slots id v other w s k at ne there' =
             (tt, tt)
             (λ j u _ _ e. n.rises j u e);
         room =
-            let f : View → ℕ = λ u. u.holding.quota in
+            let f : SignalsView → ℕ = λ u. u.holding.quota in
             let x = sum_by-set f s.views id v b at in
             let y = sum_by-set f (set s.views id b) other w blank_view there' in
             let o = n.room in
@@ -223,13 +223,13 @@ joins slots id v other w s k at ne there' =
               ))
               (λ (h : has t w.holding.slots ≡ false).
               let o = g.owned t lt in
-              let far : owner t ≢ other = λ e. no_both (has t w.holding.slots) (ap (λ (u : View). has t u.holding.slots) (some-injective w o.0 (sym there ∙ ap (get_elem? s.views) (sym e) ∙ o.1)) ∙ o.2) h in
+              let far : owner t ≢ other = λ e. no_both (has t w.holding.slots) (ap (λ (u : SignalsView). has t u.holding.slots) (some-injective w o.0 (sym there ∙ ap (get_elem? s.views) (sym e) ∙ o.1)) ∙ o.2) h in
               let at' : get_elem? (set (set s.views id b) other blank_view) (now t) ≡ get_elem? (set s.views id b) (owner t) = ap (get_elem? (set (set s.views id b) other blank_view)) (owner_else owner w.holding.slots id t h) ∙ set_else (set s.views id b) other (owner t) blank_view far in
               dite (ℕ_discrete (owner t) id)
               (λ (e : owner t ≡ id). (
                 b,
                 at' ∙ ap (get_elem? (set s.views id b)) e ∙ set_here s.views id b (within s.views id v at),
-                has-append t v.holding.slots w.holding.slots ∙ ap (λ x. x || has t w.holding.slots) (ap (λ (u : View). has t u.holding.slots) (some-injective v o.0 (sym at ∙ ap (get_elem? s.views) (sym e) ∙ o.1)) ∙ o.2),
+                has-append t v.holding.slots w.holding.slots ∙ ap (λ x. x || has t w.holding.slots) (ap (λ (u : SignalsView). has t u.holding.slots) (some-injective v o.0 (sym at ∙ ap (get_elem? s.views) (sym e) ∙ o.1)) ∙ o.2),
               ))
               (λ far'. (o.0, at' ∙ set_else s.views id (owner t) b far' ∙ o.1, o.2)))
               (cases (has t w.holding.slots));

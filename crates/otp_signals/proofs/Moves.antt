@@ -9,7 +9,7 @@ use native.Mathlib.Decide.{ℕ_discrete}
 use lib.ListN.{get_elem?}
 use Rattle.atomic_table.specs.Table.{State, step, keeps, Allows, opening, Splits}
 use Rattle.atomic_table.proofs.Lists.{at_set, set_here, set_else, set_again, at_longer, at_last}
-use Rattle.otp_signals.specs.declared.view.View.{View}
+use Rattle.otp_signals.specs.declared.view.SignalsView.{SignalsView}
 use Rattle.otp_signals.specs.Lists.{numbers_to, Below, Rises, NeverFalls, ZeroOrIn, greatest, has, words_at, between}
 use Rattle.otp_signals.specs.Holdings.{after_draw, after_post}
 use Rattle.otp_signals.specs.Rules.{first_view, kept_view, cut_view, blank_view, NumberRule, SignalRule, Owns, Saw, KeepsRules, Draws, Posts, Looks}
@@ -17,38 +17,38 @@ use Rattle.otp_tally.proofs.Sums.{sum_by-set, one_le_sum_by}
 use Rattle.otp_signals.proofs.Sums.{weigh_all, Below-more, Below-push, Rises-push, words_at-push_here, words_at-push_else, greatest-push, ZeroOrIn-more, look-push, has-slots_below, has-filter, and_false, and_true, between-from, between-to}
 
 -- what holds of each view holds after a change of one
-pub each_set : (F : ℕ → View → Type 0) (views : List View) (id : ℕ) (w : View) → F id w → ((j : ℕ) (u : View) → get_elem? views j ≡ some u → F j u) → (j : ℕ) (u : View) → get_elem? (set views id w) j ≡ some u → F j u
+pub each_set : (F : ℕ → SignalsView → Type 0) (views : List SignalsView) (id : ℕ) (w : SignalsView) → F id w → ((j : ℕ) (u : SignalsView) → get_elem? views j ≡ some u → F j u) → (j : ℕ) (u : SignalsView) → get_elem? (set views id w) j ≡ some u → F j u
 each_set F views id w mine others j u e =
     ⊎_elim
-    (λ (x : (j ≡ id) × (w ≡ u)). subst (λ (y : ℕ × View). F y.0 y.1) (λ i. (sym x.0 i, x.1 i)) mine)
+    (λ (x : (j ≡ id) × (w ≡ u)). subst (λ (y : ℕ × SignalsView). F y.0 y.1) (λ i. (sym x.0 i, x.1 i)) mine)
     (λ (x : (j ≢ id) × (get_elem? views j ≡ some u)). others j u x.1)
     (at_set views id j w u e)
 
-pub in_range : (l : List View) (i : ℕ) (v : View) → get_elem? l i ≡ some v → i < length l
+pub in_range : (l : List SignalsView) (i : ℕ) (v : SignalsView) → get_elem? l i ≡ some v → i < length l
 in_range [] i v e = absurd (some-ne-none v (sym e))
 in_range (x ∷ xs) zero v e = omega arith
 in_range (x ∷ xs) (suc i) v e = let p = in_range xs i v e in omega arith
 
 -- the owner of a slot is there after a change of one view that keeps its slots
-pub owned_set : (views : List View) (id : ℕ) (v w : View) → get_elem? views id ≡ some v → w.holding.slots ≡ v.holding.slots → (slot k : ℕ)
-    → ((u : View) × (get_elem? views k ≡ some u) × (has slot u.holding.slots ≡ true)) → ((u : View) × (get_elem? (set views id w) k ≡ some u) × (has slot u.holding.slots ≡ true))
+pub owned_set : (views : List SignalsView) (id : ℕ) (v w : SignalsView) → get_elem? views id ≡ some v → w.holding.slots ≡ v.holding.slots → (slot k : ℕ)
+    → ((u : SignalsView) × (get_elem? views k ≡ some u) × (has slot u.holding.slots ≡ true)) → ((u : SignalsView) × (get_elem? (set views id w) k ≡ some u) × (has slot u.holding.slots ≡ true))
 owned_set views id v w at same slot k o =
     dite (ℕ_discrete k id)
     (λ (e : k ≡ id). (
       w,
       ap (λ j. get_elem? (set views id w) j) e ∙ set_here views id w (in_range views id v at),
-      ap (has slot) same ∙ ap (λ (u : View). has slot u.holding.slots) (some-injective v o.0 (sym at ∙ ap (get_elem? views) (sym e) ∙ o.1)) ∙ o.2,
+      ap (has slot) same ∙ ap (λ (u : SignalsView). has slot u.holding.slots) (some-injective v o.0 (sym at ∙ ap (get_elem? views) (sym e) ∙ o.1)) ∙ o.2,
     ))
     (λ ne. (o.0, set_else views id k w ne ∙ o.1, o.2))
 
-drawn_number : (views : List View) (id c : ℕ) (v : View) → get_elem? views id ≡ some v → 0 < v.holding.quota → NumberRule c views
+drawn_number : (views : List SignalsView) (id c : ℕ) (v : SignalsView) → get_elem? views id ≡ some v → 0 < v.holding.quota → NumberRule c views
     → NumberRule (c + 1) (set views id (record v { holding = after_draw c v.holding }))
 drawn_number views id c v at some_left k =
-    let w : View = record v { holding = after_draw c v.holding } in
+    let w : SignalsView = record v { holding = after_draw c v.holding } in
     let mine = k.rises id v at in record {
       begins = let p = k.begins in omega arith;
       once = λ h.
-          let s = sum_by-set (λ (u : View). sum_by h u.holding.drawn) views id v w at in
+          let s = sum_by-set (λ (u : SignalsView). sum_by h u.holding.drawn) views id v w at in
           let a = weigh_all h views in
           let b = weigh_all h (set views id w) in
           let o = k.once h in
@@ -63,11 +63,11 @@ drawn_number views id c v at some_left k =
       rises = each_set (λ j u. Rises u.holding.drawn × Below (c + 1) u.holding.drawn) views id w
           (Rises-push v.holding.drawn c mine.0 mine.1, Below-push (c + 1) v.holding.drawn c (Below-more c (c + 1) (omega arith) v.holding.drawn mine.1) (omega arith))
           (λ j u e. let x = k.rises j u e in (x.0, Below-more c (c + 1) (omega arith) u.holding.drawn x.1));
-      room = let s = sum_by-set (λ (u : View). u.holding.quota) views id v w at in let r = k.room in omega arith;
+      room = let s = sum_by-set (λ (u : SignalsView). u.holding.quota) views id v w at in let r = k.room in omega arith;
     }
 
 -- the signals stay where a view changes only what it drew, and the counter changes
-same_signals : (slots : ℕ) (words : List ℕ) (views : List View) (id n : ℕ) (v w : View) (owner : ℕ → ℕ) (posted : ℕ → List ℕ) → get_elem? views id ≡ some v
+same_signals : (slots : ℕ) (words : List ℕ) (views : List SignalsView) (id n : ℕ) (v w : SignalsView) (owner : ℕ → ℕ) (posted : ℕ → List ℕ) → get_elem? views id ≡ some v
     → w.holding.slots ≡ v.holding.slots → w.holding.posts ≡ v.holding.posts → w.looks ≡ v.looks → SignalRule slots words views owner posted → SignalRule slots (set words 0 n) (set views id w) owner posted
 same_signals slots words views id n v w owner posted at same₁ same₂ same₃ k = record {
   owned = λ slot lt. owned_set views id v w at same₁ slot (owner slot) (k.owned slot lt);
@@ -79,13 +79,13 @@ same_signals slots words views id n v w owner posted at same₁ same₂ same₃ 
       k.seats;
 }
 
-pub draws : (slots homes id : ℕ) (v : View) (cs : List (ℕ × ℕ)) → 0 < v.holding.quota → Allows (KeepsRules slots) homes id (v, cs) 0 (λ n. (n + 1) % 2 ^ 64) (Draws (step homes 0 1 0 none) (v, cs))
+pub draws : (slots homes id : ℕ) (v : SignalsView) (cs : List (ℕ × ℕ)) → 0 < v.holding.quota → Allows (KeepsRules slots) homes id (v, cs) 0 (λ n. (n + 1) % 2 ^ 64) (Draws (step homes 0 1 0 none) (v, cs))
 draws slots homes id v cs some_left s k no_homes at small =
     let c : ℕ = slice_index s.words 0 in
-    let w : View = record v { holding = after_draw c v.holding } in
+    let w : SignalsView = record v { holding = after_draw c v.holding } in
     let len = k.words in
     let room = k.numbers.room in
-    let one = one_le_sum_by (λ (u : View). u.holding.quota) s.views id v at in
+    let one = one_le_sum_by (λ (u : SignalsView). u.holding.quota) s.views id v at in
     let fits : (c + 1) % 2 ^ 64 ≡ c + 1 = omega arith in
     let here : slice_index (set s.words 0 ((c + 1) % 2 ^ 64)) 0 ≡ c + 1 = get_or-set_same s.words 0 ((c + 1) % 2 ^ 64) 0 (omega arith) ∙ fits in
     let sig = k.signals in (
@@ -101,7 +101,7 @@ draws slots homes id v cs some_left s k no_homes at small =
     )
 
 -- the numbers stay where a view changes neither its numbers nor its quota, and the word is no counter
-same_numbers : (words : List ℕ) (views : List View) (id slot n : ℕ) (v w : View) → get_elem? views id ≡ some v → w.holding.drawn ≡ v.holding.drawn → w.holding.quota ≡ v.holding.quota
+same_numbers : (words : List ℕ) (views : List SignalsView) (id slot n : ℕ) (v w : SignalsView) → get_elem? views id ≡ some v → w.holding.drawn ≡ v.holding.drawn → w.holding.quota ≡ v.holding.quota
     → NumberRule (slice_index words 0) views → NumberRule (slice_index (set words (slot + 1) n) 0) (set views id w)
 same_numbers words views id slot n v w at same₁ same₂ k =
     let c : ℕ = slice_index words 0 in
@@ -109,14 +109,14 @@ same_numbers words views id slot n v w at same₁ same₂ k =
     let k' : NumberRule c (set views id w) = record {
       begins = k.begins;
       once = λ h.
-          let s = sum_by-set (λ (u : View). sum_by h u.holding.drawn) views id v w at in
+          let s = sum_by-set (λ (u : SignalsView). sum_by h u.holding.drawn) views id v w at in
           let a = weigh_all h views in
           let b = weigh_all h (set views id w) in
           let o = k.once h in
           let d : sum_by h w.holding.drawn ≡ sum_by h v.holding.drawn = ap (sum_by h) same₁ in
           omega arith;
       rises = each_set (λ j u. Rises u.holding.drawn × Below c u.holding.drawn) views id w (subst (λ l. Rises l × Below c l) (sym same₁) (k.rises id v at)) k.rises;
-      room = let s = sum_by-set (λ (u : View). u.holding.quota) views id v w at in let r = k.room in omega arith;
+      room = let s = sum_by-set (λ (u : SignalsView). u.holding.quota) views id v w at in let r = k.room in omega arith;
     } in
     subst (λ m. NumberRule m (set views id w)) (sym here) k'
 
@@ -141,7 +141,7 @@ zero_or_in_more posted slot k s xs z =
 false_true : (b : Bool) → b ≡ true → b ≡ false → ⊥
 false_true b t f = true≢false (sym t ∙ f)
 
-owns_more : (owner : ℕ → ℕ) (posted : ℕ → List ℕ) (id slot k : ℕ) (v : View) → has slot v.holding.slots ≡ true → Owns owner posted id v
+owns_more : (owner : ℕ → ℕ) (posted : ℕ → List ℕ) (id slot k : ℕ) (v : SignalsView) → has slot v.holding.slots ≡ true → Owns owner posted id v
     → Owns owner (posted_more posted slot k) id (record v { holding = after_post slot k v.holding })
 owns_more owner posted id slot k v mine o s =
     dite (ℕ_discrete s slot)
@@ -155,17 +155,17 @@ owns_more owner posted id slot k v mine o s =
     ))
 
 -- the others own nothing there
-owns_others : (owner : ℕ → ℕ) (posted : ℕ → List ℕ) (id slot k j : ℕ) (u : View) → owner slot ≡ id → j ≢ id → Owns owner posted j u → Owns owner (posted_more posted slot k) j u
+owns_others : (owner : ℕ → ℕ) (posted : ℕ → List ℕ) (id slot k j : ℕ) (u : SignalsView) → owner slot ≡ id → j ≢ id → Owns owner posted j u → Owns owner (posted_more posted slot k) j u
 owns_others owner posted id slot k j u is ne o s = (
   (λ h. (((o s).0 h).0, ((o s).0 h).1 ∙ sym (posted_else posted slot k s (λ (e : s ≡ slot). ne (sym ((o s).0 h).0 ∙ ap owner e ∙ is))))),
   (o s).1,
 )
 
-posted_signals : (slots : ℕ) (words : List ℕ) (views : List View) (id slot k : ℕ) (v : View) (owner : ℕ → ℕ) (posted : ℕ → List ℕ) → length words ≡ slots + 1 → get_elem? views id ≡ some v
+posted_signals : (slots : ℕ) (words : List ℕ) (views : List SignalsView) (id slot k : ℕ) (v : SignalsView) (owner : ℕ → ℕ) (posted : ℕ → List ℕ) → length words ≡ slots + 1 → get_elem? views id ≡ some v
     → has slot v.holding.slots ≡ true → slot < slots → SignalRule slots words views owner posted
     → SignalRule slots (set words (slot + 1) (max (slice_index words (slot + 1)) k)) (set views id (record v { holding = after_post slot k v.holding })) owner (posted_more posted slot k)
 posted_signals slots words views id slot k v owner posted len at mine there g =
-    let w : View = record v { holding = after_post slot k v.holding } in
+    let w : SignalsView = record v { holding = after_post slot k v.holding } in
     let n : ℕ = max (slice_index words (slot + 1)) k in
     let me = g.seats id v at in
     let is : owner slot ≡ id = ((me.0 slot).0 mine).0 in record {
@@ -176,14 +176,14 @@ posted_signals slots words views id slot k v owner posted len at mine there g =
           ∙ sym (ap greatest (ap (posted_more posted slot k) e ∙ posted_here posted slot k)))
           (λ ne. get_or-set_other words (slot + 1) (s + 1) n 0 (λ z. ne (omega arith)) ∙ g.greatest_is s lt ∙ sym (ap greatest (posted_else posted slot k s ne)));
       seats = λ j u e. ⊎_elim
-          (λ (x : (j ≡ id) × (w ≡ u)). subst (λ (y : ℕ × View). Owns owner (posted_more posted slot k) y.0 y.1 × Saw (posted_more posted slot k) y.1) (λ i. (sym x.0 i, x.1 i))
+          (λ (x : (j ≡ id) × (w ≡ u)). subst (λ (y : ℕ × SignalsView). Owns owner (posted_more posted slot k) y.0 y.1 × Saw (posted_more posted slot k) y.1) (λ i. (sym x.0 i, x.1 i))
           (owns_more owner posted id slot k v mine me.0, (λ s. ((me.1 s).0, zero_or_in_more posted slot k s (words_at s v.looks) (me.1 s).1))))
           (λ (x : (j ≢ id) × (get_elem? views j ≡ some u)). let o = g.seats j u x.1 in
           (owns_others owner posted id slot k j u is x.0 o.0, (λ s. ((o.1 s).0, zero_or_in_more posted slot k s (words_at s u.looks) (o.1 s).1))))
           (at_set views id j w u e);
     }
 
-pub posts : (slots homes id slot k : ℕ) (v : View) (cs : List (ℕ × ℕ)) → has slot v.holding.slots ≡ true → slot < slots → Allows (KeepsRules slots) homes id (v, cs) (slot + 1) (λ n. max n k) (Posts (step homes (slot + 1) k 0 none) (v, cs))
+pub posts : (slots homes id slot k : ℕ) (v : SignalsView) (cs : List (ℕ × ℕ)) → has slot v.holding.slots ≡ true → slot < slots → Allows (KeepsRules slots) homes id (v, cs) (slot + 1) (λ n. max n k) (Posts (step homes (slot + 1) k 0 none) (v, cs))
 posts slots homes id slot k v cs mine there s h no_homes at small =
     let sig = h.signals in
     let n : ℕ = max (slice_index s.words (slot + 1)) k in
@@ -200,11 +200,11 @@ posts slots homes id slot k v cs mine there s h no_homes at small =
     )
 
 -- a look at the word of a slot
-looked : (slots : ℕ) (words : List ℕ) (views : List View) (id slot : ℕ) (v : View) (owner : ℕ → ℕ) (posted : ℕ → List ℕ) → get_elem? views id ≡ some v → slot < slots → SignalRule slots words views owner posted
+looked : (slots : ℕ) (words : List ℕ) (views : List SignalsView) (id slot : ℕ) (v : SignalsView) (owner : ℕ → ℕ) (posted : ℕ → List ℕ) → get_elem? views id ≡ some v → slot < slots → SignalRule slots words views owner posted
     → SignalRule slots words (set views id (record v { looks = v.looks ++ (slot, slice_index words (slot + 1)) ∷ [] })) owner posted
 looked slots words views id slot v owner posted at there g =
     let n : ℕ = slice_index words (slot + 1) in
-    let w : View = record v { looks = v.looks ++ (slot, n) ∷ [] } in
+    let w : SignalsView = record v { looks = v.looks ++ (slot, n) ∷ [] } in
     let me = g.seats id v at in record {
       owned = λ s lt. owned_set views id v w at refl s (owner s) (g.owned s lt);
       greatest_is = g.greatest_is;
@@ -221,11 +221,11 @@ looked slots words views id slot v owner posted at there g =
           g.seats;
     }
 
-pub looks_at : (slots homes id slot : ℕ) (v : View) (cs : List (ℕ × ℕ)) → slot < slots → Allows (KeepsRules slots) homes id (v, cs) (slot + 1) (λ n. n) (Looks (step homes (slot + 1) 0 0 none) (v, cs))
+pub looks_at : (slots homes id slot : ℕ) (v : SignalsView) (cs : List (ℕ × ℕ)) → slot < slots → Allows (KeepsRules slots) homes id (v, cs) (slot + 1) (λ n. n) (Looks (step homes (slot + 1) 0 0 none) (v, cs))
 looks_at slots homes id slot v cs there s h no_homes at small =
     let sig = h.signals in
     let n : ℕ = slice_index s.words (slot + 1) in
-    let w : View = record v { looks = v.looks ++ (slot, n) ∷ [] } in
+    let w : SignalsView = record v { looks = v.looks ++ (slot, n) ∷ [] } in
     let e : slot + 1 - 1 ≡ slot = omega arith in
     let stays : set s.words (slot + 1) n ≡ s.words = set-get_or s.words (slot + 1) 0 in (
       w,
@@ -239,7 +239,7 @@ looks_at slots homes id slot v cs there s h no_homes at small =
       ap (λ j. (record v { looks = v.looks ++ (j, n) ∷ [] }, cs)) (sym e),
     )
 
-only_first : (v u : View) (id : ℕ) → get_elem? (v ∷ []) id ≡ some u → (id ≡ 0) × (v ≡ u)
+only_first : (v u : SignalsView) (id : ℕ) → get_elem? (v ∷ []) id ≡ some u → (id ≡ 0) × (v ≡ u)
 only_first v u zero e = (refl, some-injective v u e)
 only_first v u (suc id) e = absurd (some-ne-none u (sym e))
 
@@ -254,7 +254,7 @@ opens n ws is = subst (λ l. KeepsRules n (opening l [] (first_view n))) (sym is
   numbers = record {
     begins = lit≤ tt;
     once = λ h. refl;
-    rises = λ id v e. subst (λ (u : View). Rises u.holding.drawn × Below 1 u.holding.drawn) (only_first (first_view n) v id e).1 (tt, tt);
+    rises = λ id v e. subst (λ (u : SignalsView). Rises u.holding.drawn × Below 1 u.holding.drawn) (only_first (first_view n) v id e).1 (tt, tt);
     room = refl;
   };
   signals = (
@@ -263,35 +263,35 @@ opens n ws is = subst (λ l. KeepsRules n (opening l [] (first_view n))) (sym is
     record {
       owned = λ slot lt. (first_view n, refl, has-slots_below n slot lt);
       greatest_is = λ slot lt. ap (slice_index (1 ∷ replicate n 0)) (add-one slot) ∙ get_or-replicate_zero n slot;
-      seats = λ id v e. let x = only_first (first_view n) v id e in subst (λ (y : ℕ × View). Owns (λ _. 0) (λ _. []) y.0 y.1 × Saw (λ _. []) y.1) (λ i. (sym x.0 i, x.1 i))
+      seats = λ id v e. let x = only_first (first_view n) v id e in subst (λ (y : ℕ × SignalsView). Owns (λ _. 0) (λ _. []) y.0 y.1 × Saw (λ _. []) y.1) (λ i. (sym x.0 i, x.1 i))
           ((λ slot. ((λ h. (refl, refl)), (λ h. refl))), (λ slot. (tt, tt)));
     },
   );
 }
 
-at_end : (l : List View) (a b : View) (j : ℕ) → get_elem? (l ++ a ∷ []) j ≡ some b → (get_elem? l j ≡ some b) ⊎ ((j ≡ length l) × (a ≡ b))
+at_end : (l : List SignalsView) (a b : SignalsView) (j : ℕ) → get_elem? (l ++ a ∷ []) j ≡ some b → (get_elem? l j ≡ some b) ⊎ ((j ≡ length l) × (a ≡ b))
 at_end [] a b zero e = inr (refl, some-injective a b e)
 at_end [] a b (suc j) e = absurd (some-ne-none b (sym e))
 at_end (x ∷ xs) a b zero e = inl e
 at_end (x ∷ xs) a b (suc j) e = ⊎_elim (λ t. inl t) (λ (t : (j ≡ length xs) × (a ≡ b)). inr (ap suc t.0, t.1)) (at_end xs a b j e)
 
 -- what holds of each view holds after one is cut in two
-pub each_cut : (F : ℕ → View → Type 0) (views : List View) (id : ℕ) (l r : View) → F id l → F (length views) r → ((j : ℕ) (u : View) → j ≢ id → get_elem? views j ≡ some u → F j u)
-    → (j : ℕ) (u : View) → get_elem? (set views id l ++ r ∷ []) j ≡ some u → F j u
+pub each_cut : (F : ℕ → SignalsView → Type 0) (views : List SignalsView) (id : ℕ) (l r : SignalsView) → F id l → F (length views) r → ((j : ℕ) (u : SignalsView) → j ≢ id → get_elem? views j ≡ some u → F j u)
+    → (j : ℕ) (u : SignalsView) → get_elem? (set views id l ++ r ∷ []) j ≡ some u → F j u
 each_cut F views id l r mine new others j u e =
     ⊎_elim
     (λ was. ⊎_elim
-    (λ (x : (j ≡ id) × (l ≡ u)). subst (λ (y : ℕ × View). F y.0 y.1) (λ i. (sym x.0 i, x.1 i)) mine)
+    (λ (x : (j ≡ id) × (l ≡ u)). subst (λ (y : ℕ × SignalsView). F y.0 y.1) (λ i. (sym x.0 i, x.1 i)) mine)
     (λ (x : (j ≢ id) × (get_elem? views j ≡ some u)). others j u x.0 x.1)
     (at_set views id j l u was))
-    (λ (x : (j ≡ length (set views id l)) × (r ≡ u)). subst (λ (y : ℕ × View). F y.0 y.1) (λ i. (sym (x.0 ∙ length-set views id l) i, x.1 i)) new)
+    (λ (x : (j ≡ length (set views id l)) × (r ≡ u)). subst (λ (y : ℕ × SignalsView). F y.0 y.1) (λ i. (sym (x.0 ∙ length-set views id l) i, x.1 i)) new)
     (at_end (set views id l) r u j e)
 
-pub cut_numbers : (views : List View) (id c : ℕ) (v l r : View) → get_elem? views id ≡ some v → l.holding.drawn ≡ v.holding.drawn → r.holding.drawn ≡ [] → l.holding.quota + r.holding.quota ≡ v.holding.quota → NumberRule c views → NumberRule c (set views id l ++ r ∷ [])
+pub cut_numbers : (views : List SignalsView) (id c : ℕ) (v l r : SignalsView) → get_elem? views id ≡ some v → l.holding.drawn ≡ v.holding.drawn → r.holding.drawn ≡ [] → l.holding.quota + r.holding.quota ≡ v.holding.quota → NumberRule c views → NumberRule c (set views id l ++ r ∷ [])
 cut_numbers views id c v l r at same empty quota k = record {
   begins = k.begins;
   once = λ h.
-      let f : View → ℕ = λ u. sum_by h u.holding.drawn in
+      let f : SignalsView → ℕ = λ u. sum_by h u.holding.drawn in
       let s = sum_by-set f views id v l at in
       let a = weigh_all h views in
       let b = weigh_all h (set views id l ++ r ∷ []) in
@@ -301,7 +301,7 @@ cut_numbers views id c v l r at same empty quota k = record {
       omega (arith, sum_by-append f (set views id l) (r ∷ []), sum_by-cons f r []);
   rises = each_cut (λ j u. Rises u.holding.drawn × Below c u.holding.drawn) views id l r (subst (λ xs. Rises xs × Below c xs) (sym same) (k.rises id v at)) (subst (λ xs. Rises xs × Below c xs) (sym empty) (tt, tt)) (λ j u ne e. k.rises j u e);
   room =
-      let f : View → ℕ = λ u. u.holding.quota in
+      let f : SignalsView → ℕ = λ u. u.holding.quota in
       let s = sum_by-set f views id v l at in
       let o = k.room in
       omega (arith, sum_by-append f (set views id l) (r ∷ []), sum_by-cons f r []);
@@ -323,13 +323,13 @@ true_or_false : (b : Bool) → (b ≡ true) ⊎ (b ≡ false)
 true_or_false true = inl refl
 true_or_false false = inr refl
 
-cut_signals : (slots : ℕ) (words : List ℕ) (views : List View) (id from to quota : ℕ) (v : View) (owner : ℕ → ℕ) (posted : ℕ → List ℕ) → get_elem? views id ≡ some v
+cut_signals : (slots : ℕ) (words : List ℕ) (views : List SignalsView) (id from to quota : ℕ) (v : SignalsView) (owner : ℕ → ℕ) (posted : ℕ → List ℕ) → get_elem? views id ≡ some v
     → ((slot : ℕ) → from ≤ slot → slot < to → (has slot v.holding.slots ≡ true) × (words_at slot v.holding.posts ≡ []))
     → SignalRule slots words views owner posted
     → SignalRule slots words (set views id (kept_view from to quota v) ++ cut_view from to quota v ∷ []) (owner_after owner from to (length views)) posted
 cut_signals slots words views id from to quota v owner posted at free g =
-    let l : View = kept_view from to quota v in
-    let r : View = cut_view from to quota v in
+    let l : SignalsView = kept_view from to quota v in
+    let r : SignalsView = cut_view from to quota v in
     let new : ℕ = length views in
     let mine = g.seats id v at in
     let inside : (s : ℕ) → between from to s ≡ true → (has s v.holding.slots ≡ true) × (words_at s v.holding.posts ≡ []) = λ s b. free s (between-from from to s b) (between-to from to s b) in
@@ -345,7 +345,7 @@ cut_signals slots words views id from to quota v owner posted at free g =
           (λ (e : owner s ≡ id). (
             l,
             at_longer (set views id l) (r ∷ []) _ l (ap (get_elem? (set views id l)) (owner_out owner from to new s b ∙ e) ∙ set_here views id l (in_range views id v at)),
-            has-filter (λ t. not (between from to t)) s v.holding.slots ∙ ap (λ t. has s v.holding.slots && not t) b ∙ ap (λ t. t && true) (ap (λ (u : View). has s u.holding.slots) (some-injective v o.0 (sym at ∙ ap (get_elem? views) (sym e) ∙ o.1)) ∙ o.2),
+            has-filter (λ t. not (between from to t)) s v.holding.slots ∙ ap (λ t. has s v.holding.slots && not t) b ∙ ap (λ t. t && true) (ap (λ (u : SignalsView). has s u.holding.slots) (some-injective v o.0 (sym at ∙ ap (get_elem? views) (sym e) ∙ o.1)) ∙ o.2),
           ))
           (λ ne. (
             o.0,
@@ -389,7 +389,7 @@ cut_signals slots words views id from to quota v owner posted at free g =
           ));
     }
 
-pub cuts : (slots id from to quota : ℕ) (v : View) → quota ≤ v.holding.quota → ((slot : ℕ) → from ≤ slot → slot < to → (has slot v.holding.slots ≡ true) × (words_at slot v.holding.posts ≡ []))
+pub cuts : (slots id from to quota : ℕ) (v : SignalsView) → quota ≤ v.holding.quota → ((slot : ℕ) → from ≤ slot → slot < to → (has slot v.holding.slots ≡ true) × (words_at slot v.holding.posts ≡ []))
     → Splits {S = ℕ} (KeepsRules slots) id v (kept_view from to quota v) (cut_view from to quota v)
 cuts slots id from to quota v le free s k at =
     let sig = k.signals in record {
@@ -399,15 +399,15 @@ cuts slots id from to quota v le free s k at =
     }
 
 -- a load of the counter changes nothing
-pub loaded : (slots id : ℕ) (v : View) (s : State ℕ View) → KeepsRules slots s → get_elem? s.views id ≡ some v
+pub loaded : (slots id : ℕ) (v : SignalsView) (s : State ℕ SignalsView) → KeepsRules slots s → get_elem? s.views id ≡ some v
     → KeepsRules slots record { words = set s.words 0 (slice_index s.words 0); homes = s.homes; views = set s.views id v }
 loaded slots id v s k at =
     let same : set s.words 0 (slice_index s.words 0) ≡ s.words = set-get_or s.words 0 0 in
     let views : set s.views id v ≡ s.views = set_again s.views id v at in
-    subst (λ (x : List ℕ × List View). KeepsRules slots record { words = x.0; homes = s.homes; views = x.1 }) (λ i. (sym same i, sym views i)) k
+    subst (λ (x : List ℕ × List SignalsView). KeepsRules slots record { words = x.0; homes = s.homes; views = x.1 }) (λ i. (sym same i, sym views i)) k
 
 -- a seat that may only look
-pub parts_blank : (slots id : ℕ) (v : View) → Splits {S = ℕ} (KeepsRules slots) id v v blank_view
+pub parts_blank : (slots id : ℕ) (v : SignalsView) → Splits {S = ℕ} (KeepsRules slots) id v v blank_view
 parts_blank slots id v s k at =
     let sig = k.signals in
     let g = sig.2 in

@@ -4,16 +4,16 @@ use Rattle.std.specs.Prelude.{sum_by, max, filter, not}
 use Rattle.std.proofs.lemmas.Bool.Decides.{nat_tests}
 use Rattle.std.proofs.lemmas.List.Sums.{sum_by-append, sum_by-cons}
 use Rattle.std.proofs.lemmas.Bool.{lt-leb}
-use Rattle.otp_signals.specs.declared.view.View.{View}
+use Rattle.otp_signals.specs.declared.view.SignalsView.{SignalsView}
 use Rattle.otp_signals.specs.Rules.{all_drawn}
 use Rattle.otp_signals.specs.Lists.{Below, Above, Rises, AtLeast, NeverFalls, Stands, ZeroOrIn, greatest, has, words_at, between, slots_below}
 use mathlib.Core.Logic.{dite}
 use native.Mathlib.Decide.{ℕ_discrete, dec_le}
 
 -- all numbers drawn, weighed, are the weights of each view's
-pub weigh_all : (h : ℕ → ℕ) (vs : List View) → sum_by h (all_drawn vs) ≡ sum_by (λ (v : View). sum_by h v.holding.drawn) vs
+pub weigh_all : (h : ℕ → ℕ) (vs : List SignalsView) → sum_by h (all_drawn vs) ≡ sum_by (λ (v : SignalsView). sum_by h v.holding.drawn) vs
 weigh_all h [] = refl
-weigh_all h (v ∷ vs) = sum_by-append h v.holding.drawn (all_drawn vs) ∙ ap (λ n. sum_by h v.holding.drawn + n) (weigh_all h vs) ∙ sym (sum_by-cons (λ (u : View). sum_by h u.holding.drawn) v vs)
+weigh_all h (v ∷ vs) = sum_by-append h v.holding.drawn (all_drawn vs) ∙ ap (λ n. sum_by h v.holding.drawn + n) (weigh_all h vs) ∙ sym (sum_by-cons (λ (u : SignalsView). sum_by h u.holding.drawn) v vs)
 
 pub Below-more : (m n : ℕ) → m ≤ n → (xs : List ℕ) → Below m xs → Below n xs
 Below-more m n le [] b = tt

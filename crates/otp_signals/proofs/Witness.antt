@@ -7,7 +7,7 @@ use lib.ListN.{get_elem?}
 use Rattle.atomic_table.specs.Table.{step, keeps, Allows, Splits, Joins}
 use Rattle.atomic_table.proofs.Lists.{at_set, at_longer}
 use Rattle.otp_signals.specs.declared.view.Holding.{Holding}
-use Rattle.otp_signals.specs.declared.view.View.{View}
+use Rattle.otp_signals.specs.declared.view.SignalsView.{SignalsView}
 use Rattle.otp_signals.specs.Lists.{Below, Rises, ZeroOrIn, Stands, has, words_at}
 use Rattle.otp_signals.specs.Holdings.{no_holding}
 use Rattle.otp_signals.specs.declared.signal.Signal.{Signal}
@@ -20,14 +20,14 @@ use Rattle.otp_signals.proofs.Moves.{owned_set, each_cut, cut_numbers, loaded}
 use Rattle.otp_signals.proofs.Joins.{each_two}
 use Rattle.otp_signals.proofs.Membership.{has-Contains}
 
-owns_nothing : (owner : ℕ → ℕ) (posted : ℕ → List ℕ) (id : ℕ) (v : View) → v.holding ≡ no_holding → Owns owner posted id v
+owns_nothing : (owner : ℕ → ℕ) (posted : ℕ → List ℕ) (id : ℕ) (v : SignalsView) → v.holding ≡ no_holding → Owns owner posted id v
 owns_nothing owner posted id v is =
     let F : Holding → Type 0 = λ h. (slot : ℕ) → (has slot h.slots ≡ true → (owner slot ≡ id) × (words_at slot h.posts ≡ posted slot)) × (has slot h.slots ≡ false → words_at slot h.posts ≡ []) in
     subst F (sym is) (λ slot. ((λ h. absurd (true≢false (sym h))), (λ h. refl)))
 
-pub lends : (slots id : ℕ) (v : View) (other : ℕ) (w : View) → w.holding ≡ no_holding → Joins {S = ℕ} (KeepsRules slots) id v other w (lent_view v w) blank_view
+pub lends : (slots id : ℕ) (v : SignalsView) (other : ℕ) (w : SignalsView) → w.holding ≡ no_holding → Joins {S = ℕ} (KeepsRules slots) id v other w (lent_view v w) blank_view
 lends slots id v other w bare s k at ne there =
-    let b : View = lent_view v w in
+    let b : SignalsView = lent_view v w in
     let was : get_elem? s.views other ≡ some w = ⊎_elim (λ (t : (other ≡ id) × (b ≡ w)). absurd (ne t.0)) (λ (t : (other ≢ id) × (get_elem? s.views other ≡ some w)). t.1) (at_set s.views id other b w there) in
     let n = k.numbers in
     let sig = k.signals in
@@ -37,7 +37,7 @@ lends slots id v other w bare s k at ne there =
       numbers = record {
         begins = n.begins;
         once = λ h.
-            let f : View → ℕ = λ u. sum_by h u.holding.drawn in
+            let f : SignalsView → ℕ = λ u. sum_by h u.holding.drawn in
             let x = sum_by-set f s.views id v b at in
             let y = sum_by-set f (set s.views id b) other w blank_view there in
             let p = weigh_all h s.views in
@@ -47,7 +47,7 @@ lends slots id v other w bare s k at ne there =
             omega arith;
         rises = each_two (λ j u. Rises u.holding.drawn × Below c u.holding.drawn) s.views id other b blank_view (n.rises id v at) (tt, tt) (λ j u _ _ e. n.rises j u e);
         room =
-            let f : View → ℕ = λ u. u.holding.quota in
+            let f : SignalsView → ℕ = λ u. u.holding.quota in
             let x = sum_by-set f s.views id v b at in
             let y = sum_by-set f (set s.views id b) other w blank_view there in
             let o = n.room in
@@ -68,17 +68,17 @@ lends slots id v other w bare s k at ne there =
       );
     }
 
-pub witnesses : (slots homes id : ℕ) (v : View) (cs : List (ℕ × ℕ)) → Allows (KeepsRules slots) homes id (v, cs) 0 (λ n. n) (Witnesses (step homes 0 0 0 none) (v, cs))
+pub witnesses : (slots homes id : ℕ) (v : SignalsView) (cs : List (ℕ × ℕ)) → Allows (KeepsRules slots) homes id (v, cs) 0 (λ n. n) (Witnesses (step homes 0 0 0 none) (v, cs))
 witnesses slots homes id v cs s k no_homes at small =
     let me = k.signals.2.seats id v at in
     (v, keeps, tt, loaded slots id v s k at, (refl, (λ slot mine. let saw = me.1 slot in (saw.0, subst (λ l. ZeroOrIn l (words_at slot v.looks)) (sym ((me.0 slot).0 mine).1) saw.1))))
 
-pub gives_back : (slots id : ℕ) (v : View) → Splits {S = ℕ} (KeepsRules slots) id v (unlent_view v) (looks_view v)
+pub gives_back : (slots id : ℕ) (v : SignalsView) → Splits {S = ℕ} (KeepsRules slots) id v (unlent_view v) (looks_view v)
 gives_back slots id v s k at =
     let sig = k.signals in
     let g = sig.2 in
-    let l : View = unlent_view v in
-    let r : View = looks_view v in
+    let l : SignalsView = unlent_view v in
+    let r : SignalsView = looks_view v in
     let mine = g.seats id v at in record {
       words = k.words;
       numbers = cut_numbers s.views id (slice_index s.words 0) v l r at refl refl (add-zero v.holding.quota) k.numbers;

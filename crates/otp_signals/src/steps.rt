@@ -1,12 +1,12 @@
 //! The rules of the words, the steps that are made on them, and how tokens are split and joined.
-use crate::view::View;
+use crate::view::SignalsView;
 use atomic_table::{Join, Play, Split, TableRule};
 use std::marker::{Brand, PhantomData};
 
 /// The number rule and the signal rule, which each step keeps.
 pub struct BothRules;
 
-impl TableRule<u8, View, usize> for BothRules {
+impl TableRule<u8, SignalsView, usize> for BothRules {
     ghost use Rattle.otp_signals.specs.Rules.{KeepsRules, first_view};
 
     ghost holds = { λ slots state. KeepsRules slots state };
@@ -17,7 +17,7 @@ impl TableRule<u8, View, usize> for BothRules {
 /// A number is drawn.
 pub struct Draw;
 
-impl Play<u8, View> for Draw {
+impl Play<u8, SignalsView> for Draw {
     ghost use Rattle.otp_signals.specs.Rules.{Draws};
 
     ghost then = { Draws };
@@ -26,7 +26,7 @@ impl Play<u8, View> for Draw {
 /// A word is posted.
 pub struct Post;
 
-impl Play<u8, View> for Post {
+impl Play<u8, SignalsView> for Post {
     ghost use Rattle.otp_signals.specs.Rules.{Posts};
 
     ghost then = { Posts };
@@ -35,7 +35,7 @@ impl Play<u8, View> for Post {
 /// A word is looked at.
 pub struct Look;
 
-impl Play<u8, View> for Look {
+impl Play<u8, SignalsView> for Look {
     ghost use Rattle.otp_signals.specs.Rules.{Looks};
 
     ghost then = { Looks };
@@ -44,7 +44,7 @@ impl Play<u8, View> for Look {
 /// An owner learns what the number rule says of it. It changes nothing.
 pub struct Learn;
 
-impl Play<u8, View> for Learn {
+impl Play<u8, SignalsView> for Learn {
     ghost use Rattle.otp_signals.specs.Rules.{Learns};
 
     ghost then = { Learns };
@@ -53,14 +53,14 @@ impl Play<u8, View> for Learn {
 /// An owner that holds what a viewer saw learns what the signal rule says of it. It changes nothing.
 pub struct Witness;
 
-impl Play<u8, View> for Witness {
+impl Play<u8, SignalsView> for Witness {
     ghost use Rattle.otp_signals.specs.Rules.{Witnesses};
 
     ghost then = { Witnesses };
 }
 
 /// What is cut off an owner: the slots from one to below another, and a quota. Each call picks it.
-pub trait Piece {
+pub trait OwnerPiece {
     ghost use Rattle.std.specs.Prelude.{ℕ};
 
     ghost from: { ℕ };
@@ -70,7 +70,7 @@ pub trait Piece {
     ghost quota: { ℕ };
 }
 
-impl Piece for Brand {
+impl OwnerPiece for Brand {
     ghost from = { 0 };
 
     ghost to = { 0 };
@@ -79,11 +79,11 @@ impl Piece for Brand {
 }
 
 /// An owner is cut in two.
-pub struct Cut<P: Piece> {
+pub struct Cut<P: OwnerPiece> {
     of: PhantomData<P>,
 }
 
-impl<P: Piece> Split<View> for Cut<P> {
+impl<P: OwnerPiece> Split<SignalsView> for Cut<P> {
     ghost use Rattle.otp_signals.specs.Rules.{kept_view, cut_view};
 
     ghost left = { λ v. kept_view P.from P.to P.quota v };
@@ -94,7 +94,7 @@ impl<P: Piece> Split<View> for Cut<P> {
 /// A viewer is split off any token.
 pub struct Apart;
 
-impl Split<View> for Apart {
+impl Split<SignalsView> for Apart {
     ghost use Rattle.otp_signals.specs.Rules.{blank_view};
 
     ghost left = { λ v. v };
@@ -105,7 +105,7 @@ impl Split<View> for Apart {
 /// An owner takes in what a viewer saw.
 pub struct Lend;
 
-impl Join<View> for Lend {
+impl Join<SignalsView> for Lend {
     ghost use Rattle.otp_signals.specs.Rules.{lent_view, blank_view};
 
     ghost both = { λ v w. lent_view v w };
@@ -116,7 +116,7 @@ impl Join<View> for Lend {
 /// An owner gives back what a viewer saw.
 pub struct GiveBack;
 
-impl Split<View> for GiveBack {
+impl Split<SignalsView> for GiveBack {
     ghost use Rattle.otp_signals.specs.Rules.{unlent_view, looks_view};
 
     ghost left = { λ v. unlent_view v };
@@ -127,7 +127,7 @@ impl Split<View> for GiveBack {
 /// An owner takes in another.
 pub struct Merge;
 
-impl Join<View> for Merge {
+impl Join<SignalsView> for Merge {
     ghost use Rattle.otp_signals.specs.Rules.{joined_view, blank_view};
 
     ghost both = { λ v w. joined_view v w };

@@ -9,9 +9,9 @@ ghost use Rattle.otp_signals.specs.Rules.{first_view, kept_view, cut_view, Ended
 
 use crate::signal::{NUMBER_LIMIT, Signal};
 use crate::steps::{
-    Apart, BothRules, Cut, Draw, GiveBack, Learn, Lend, Look, Merge, Piece, Post, Witness,
+    Apart, BothRules, Cut, Draw, GiveBack, Learn, Lend, Look, Merge, OwnerPiece, Post, Witness,
 };
-use crate::view::View;
+use crate::view::SignalsView;
 use atomic_table::{Seat, Table};
 use std::alloc::{AllocError, Global};
 use std::marker::{Brand, Model, PhantomData};
@@ -44,8 +44,8 @@ pub struct Exhausted;
 /// here and hands them to one function that is generic in the name, where it calls `named`.
 #[derive(Drop)]
 pub struct OpenWords {
-    table: Table<u8, View, usize, BothRules, Global>,
-    seat: Seat<u8, View>,
+    table: Table<u8, SignalsView, usize, BothRules, Global>,
+    seat: Seat<u8, SignalsView>,
 }
 
 impl Model for OpenWords {
@@ -66,7 +66,7 @@ impl Model for OpenWords {
 /// The words, which threads share. Contracts see their number of slots.
 #[derive(Drop)]
 pub struct Words<N: WordsNaming> {
-    table: Table<u8, View, usize, BothRules, Global>,
+    table: Table<u8, SignalsView, usize, BothRules, Global>,
     of: PhantomData<N>,
 }
 
@@ -86,7 +86,7 @@ impl<N: WordsNaming> Model for Words<N> {
 /// The right to draw numbers, as many as its quota says, and to post to its slots. It lies in one thread at a time.
 #[derive(Drop)]
 pub struct Owner<N: WordsNaming> {
-    seat: Seat<u8, View>,
+    seat: Seat<u8, SignalsView>,
     quota: u64,
     // How many numbers it drew.
     drawn: u64,
@@ -114,7 +114,7 @@ impl<N: WordsNaming> Model for Owner<N> {
 /// The right to look at signals. Contracts see the words that it loaded in order, each behind its slot.
 #[derive(Drop)]
 pub struct Viewer<N: WordsNaming> {
-    seat: Seat<u8, View>,
+    seat: Seat<u8, SignalsView>,
     of: PhantomData<N>,
 }
 
@@ -141,7 +141,7 @@ impl OpenWords {
         }
         let mut words = Vec::from_elem(alloc, 0, slots + 1)?;
         words[0] = 1;
-        let (table, seat) = Table::<u8, View, usize, BothRules, Global>::of_words(
+        let (table, seat) = Table::<u8, SignalsView, usize, BothRules, Global>::of_words(
             alloc,
             words.as_slice(),
             &slots,
@@ -245,13 +245,13 @@ impl<N: WordsNaming> Words<N> {
     }
 
     // Cuts off what P names, which is what the other arguments say.
-    fn cut<P: Piece>(
+    fn cut<P: OwnerPiece>(
         &self,
-        seat: &mut Seat<u8, View>,
+        seat: &mut Seat<u8, SignalsView>,
         _from: usize,
         _to: usize,
         _quota: u64,
-    ) -> Seat<u8, View>
+    ) -> Seat<u8, SignalsView>
         requires seat { (seat.old.table_id ≡ N.words) × (seat.old.me.1 ≡ []) }
         requires quota { P.quota ≤ seat.old.me.0.holding.quota }
         requires slots { EachBetween P.from P.to (λ slot. has slot seat.old.me.0.holding.slots ≡ true) }

@@ -4,8 +4,8 @@ use Rattle.std.specs.Io.KnownBytes.{Appends, Consumes, IsAtEnd, Keeps}
 use Rattle.std.proofs.lemmas.List.{append-nil, take-append-le, take_all}
 use Rattle.otp_spec.specs.declared.child.ChildSpec.{ChildSpec}
 use Rattle.otp_spec.specs.declared.flags.SupFlags.{SupFlags}
-use Rattle.otp_sim.specs.declared.driven.Stop.{Stop}
-use Rattle.otp_sim.specs.declared.driven.Stop.TheVariants as stop
+use Rattle.otp_sim.specs.declared.driven.LinesEnd.{LinesEnd}
+use Rattle.otp_sim.specs.declared.driven.LinesEnd.TheVariants as stop
 use Rattle.otp_sim.specs.declared.engine.SimEnd.{SimEnd}
 use Rattle.otp_sim.specs.declared.engine.SimEnd.TheVariants.{Done, LineRefused, HistoryFull, InputFailed, OutputFailed, Memory}
 use Rattle.otp_sim.specs.Devices.{Begins, AppendsPart, Devices, Readable, Written}
@@ -99,17 +99,17 @@ some_of start final taken text (Some bytes) (Some rest) before now consumed same
     let whole : take_lines (lines_of bytes) start ≡ final = ap (λ xs. take_lines (lines_of xs) start) consumed ∙ same rest refl in
     record { text = text; written = written; begins = subst (λ (t : Sim). Begins text t.text) (sym whole) begins }
 
-ends_so : (reason : Option Stop) (start : Sim) (old now : Devices)
+ends_so : (reason : Option LinesEnd) (start : Sim) (old now : Devices)
     → IfSome old.input.left (WroteAll start old.output.bytes now.output.bytes (end_of reason)) → Writes (end_of reason) start old now
 ends_so None start old now all = all
-ends_so (Some (stop.LineRefused line)) start old now all = all
+ends_so (Some (stop.LineRefused line fault)) start old now all = all
 ends_so (Some stop.HistoryFull) start old now all = all
 
 -- the way a piece ends is the way the run ends
 piece_writes : (how : SimEnd) (start : Sim) (old now : Devices) (taken : List ℕ)
     → Consumes old.input.left now.input.left taken → PieceEnds (Err how) start old.output now.output taken → Writes how start old now
 piece_writes Done start old now taken consumed ends = absurd ends
-piece_writes (LineRefused number) start old now taken consumed ends = absurd ends
+piece_writes (LineRefused number fault) start old now taken consumed ends = absurd ends
 piece_writes HistoryFull start old now taken consumed ends = absurd ends
 piece_writes InputFailed start old now taken consumed ends = absurd ends
 piece_writes OutputFailed start old now taken consumed ends =
@@ -167,7 +167,7 @@ pub flush_exit : (how : SimEnd) (start s : Sim) (old now : Devices) (ready kept 
     → Stands start s old now ready kept count → Flushes how now.output written ready
     → Writes how start old (record now { output = written })
 flush_exit Done start s old now ready kept count written stands flushes = absurd flushes
-flush_exit (LineRefused number) start s old now ready kept count written stands flushes = absurd flushes
+flush_exit (LineRefused number fault) start s old now ready kept count written stands flushes = absurd flushes
 flush_exit HistoryFull start s old now ready kept count written stands flushes = absurd flushes
 flush_exit InputFailed start s old now ready kept count written stands flushes = absurd flushes
 flush_exit OutputFailed start s old now ready kept count written stands flushes =
@@ -178,7 +178,7 @@ flush_exit Memory start s old now ready kept count written stands flushes =
     (ran_written start s old.output.bytes now.output.bytes written.bytes ready stands.taken kept stands.ran flushes)))
 
 -- no line is taken any more, and nothing is left to write
-stopped_exit : (how : SimEnd) (start s : Sim) (old now : Devices) (ready kept : List ℕ) (count : ℕ) (reason : Stop)
+stopped_exit : (how : SimEnd) (start s : Sim) (old now : Devices) (ready kept : List ℕ) (count : ℕ) (reason : LinesEnd)
     → Stands start s old now ready kept count → ready ≡ [] → Some reason ≡ s.end → how ≡ end_of (Some reason) → Writes how start old now
 stopped_exit how start s old now ready kept count reason some_ready empty ended named =
     let stands = subst (λ (bytes : List ℕ). Stands start s old now bytes kept count) empty some_ready in
@@ -189,23 +189,23 @@ stopped_exit how start s old now ready kept count reason some_ready empty ended 
     (λ rest e. ended_served start final stands.taken kept rest some stands.ran.served) text in
     subst (λ (end : SimEnd). Writes end start old now) (sym named)
     (ends_so (Some reason) start old now
-    (subst (λ (end : Option Stop). IfSome old.input.left (WroteAll start old.output.bytes now.output.bytes (end_of end))) (sym ended) all))
+    (subst (λ (end : Option LinesEnd). IfSome old.input.left (WroteAll start old.output.bytes now.output.bytes (end_of end))) (sym ended) all))
 
 -- no line is taken any more, and what is ready is written
-told_exit : (how : SimEnd) (start s : Sim) (old now : Devices) (ready kept : List ℕ) (count : ℕ) (reason : Stop) (written : Written)
+told_exit : (how : SimEnd) (start s : Sim) (old now : Devices) (ready kept : List ℕ) (count : ℕ) (reason : LinesEnd) (written : Written)
     → Stands start s old now ready kept count → Some reason ≡ s.end → now.output.failures ≤ written.failures
     → Appends now.output.bytes written.bytes ready → how ≡ end_of (Some reason) → Writes how start old (record now { output = written })
 told_exit how start s old now ready kept count reason written stands ended later more named =
     stopped_exit how start s old (record now { output = written }) [] kept count reason
     (stands_written start s old now ready [] kept count written stands more refl later) refl ended named
 
-pub ended_exit : (how : SimEnd) (start s : Sim) (old now : Devices) (ready kept : List ℕ) (count : ℕ) (reason : Stop) (written : Written)
+pub ended_exit : (how : SimEnd) (start s : Sim) (old now : Devices) (ready kept : List ℕ) (count : ℕ) (reason : LinesEnd) (written : Written)
     → Stands start s old now ready kept count → Some reason ≡ s.end → now.output.failures ≤ written.failures
     → Finishes how (Some reason) now.output written ready → Writes how start old (record now { output = written })
 ended_exit Done start s old now ready kept count reason written stands ended later last =
     told_exit Done start s old now ready kept count reason written stands ended later last.0 last.1
-ended_exit (LineRefused line) start s old now ready kept count reason written stands ended later last =
-    told_exit (LineRefused line) start s old now ready kept count reason written stands ended later last.0 last.1
+ended_exit (LineRefused line fault) start s old now ready kept count reason written stands ended later last =
+    told_exit (LineRefused line fault) start s old now ready kept count reason written stands ended later last.0 last.1
 ended_exit HistoryFull start s old now ready kept count reason written stands ended later last =
     told_exit HistoryFull start s old now ready kept count reason written stands ended later last.0 last.1
 ended_exit InputFailed start s old now ready kept count reason written stands ended later last = absurd last
@@ -234,7 +234,7 @@ input_exit start s old now ready kept count unread some_ready empty same why =
 pub next_exit : (how : SimEnd) (start s : Sim) (old now new : Devices) (ready left kept buffer : List ℕ) (count : ℕ)
     → Stands start s old now ready kept count → ReadsNext (Err how) now new ready left buffer → Writes how start old new
 next_exit Done start s old now new ready left kept buffer count stands next = absurd next
-next_exit (LineRefused line) start s old now new ready left kept buffer count stands next = absurd next
+next_exit (LineRefused line fault) start s old now new ready left kept buffer count stands next = absurd next
 next_exit HistoryFull start s old now new ready left kept buffer count stands next = absurd next
 next_exit InputFailed start s old now new ready left kept buffer count stands next =
     input_exit start s old (record now { output = new.output }) left kept count new.input
@@ -272,7 +272,7 @@ last_exit Done start s old now ready kept line count written stands final halts 
     let text = appends_more old.output.bytes now.output.bytes written.bytes stands.ran.written t.text stands.ran.appended last.0 in
     subst (λ (end : SimEnd). IfSome old.input.left (WroteAll start old.output.bytes written.bytes end)) (sym last.1)
     (all_of start (after stands.ran.written t) stands.taken old.input.left now.input.left old.output.bytes written.bytes stands.consumed final text)
-last_exit (LineRefused number) start s old now ready kept line count written stands final halts last =
+last_exit (LineRefused number fault) start s old now ready kept line count written stands final halts last =
     let t : Sim = take_line line (with_text ready s) in
     let text = appends_more old.output.bytes now.output.bytes written.bytes stands.ran.written t.text stands.ran.appended last.0 in
     subst (λ (end : SimEnd). IfSome old.input.left (WroteAll start old.output.bytes written.bytes end)) (sym last.1)

@@ -2,7 +2,7 @@
 use Rattle.std.proofs.Common.{◌≡◌, ℕ, suc, zero, ◌+◌, ◌<◌, ◌≤◌, Bool, true, false, List, [], ◌++◌, Option, None, Err, is_some, subst, ap, sym, ◌∙◌, append_assoc, arith}
 use Rattle.std.specs.Prelude.{if◌then◌else◌}
 use Rattle.std.specs.Io.KnownBytes.{Appends}
-use Rattle.otp_sim.specs.declared.driven.Stop.{Stop}
+use Rattle.otp_sim.specs.declared.driven.LinesEnd.{LinesEnd}
 use Rattle.otp_sim.specs.declared.engine.SimEnd.{SimEnd}
 use Rattle.otp_sim.specs.declared.engine.SimEnd.TheVariants.{Done, LineRefused, HistoryFull, InputFailed, OutputFailed, Memory}
 use Rattle.otp_sim.specs.Devices.{Begins, AppendsPart, Moves, Written}
@@ -105,7 +105,7 @@ pub playing_flushed : (how : SimEnd) (from s : Sim) (line : List ℕ) (before mi
     → Playing from line before.bytes mid.bytes ready s → before.failures ≤ mid.failures → Flushes how mid now ready
     → LineEnds (Err how) from line before now
 playing_flushed Done from s line before mid now ready playing later flushes = flushes
-playing_flushed (LineRefused number) from s line before mid now ready playing later flushes = flushes
+playing_flushed (LineRefused number fault) from s line before mid now ready playing later flushes = flushes
 playing_flushed HistoryFull from s line before mid now ready playing later flushes = flushes
 playing_flushed InputFailed from s line before mid now ready playing later flushes = flushes
 playing_flushed OutputFailed from s line before mid now ready playing later flushes =
@@ -122,7 +122,7 @@ pub line_flushed : (how : SimEnd) (line : List ℕ) (s : Sim) (before now : Writ
     → Flushes how before now s.text → LineEnds (Err how) s line before now
 unfolding begun
 line_flushed Done line s before now flushes = flushes
-line_flushed (LineRefused number) line s before now flushes = flushes
+line_flushed (LineRefused number fault) line s before now flushes = flushes
 line_flushed HistoryFull line s before now flushes = flushes
 line_flushed InputFailed line s before now flushes = flushes
 line_flushed OutputFailed line s before now flushes = (line_part line s before.bytes now.bytes flushes.0, flushes.1)
@@ -134,16 +134,16 @@ played_text : (from to : Sim) (line : List ℕ) (before mid now : Option (List �
 played_text from to line before mid now ready played more =
     subst (λ (t : Sim). Appends before now t.text) played.same (appends_more before mid now played.written ready played.appended more)
 
-played_end : (from to : Sim) (line : List ℕ) (before now : Option (List ℕ)) (ready : List ℕ) (reason : Option Stop)
+played_end : (from to : Sim) (line : List ℕ) (before now : Option (List ℕ)) (ready : List ℕ) (reason : Option LinesEnd)
     → Played from to line before now ready → reason ≡ to.end → end_of reason ≡ end_of (take_line line from).end
 played_end from to line before now ready reason played why = ap end_of why ∙ ap (λ (t : Sim). end_of t.end) played.same
 
-pub last_finished : (how : SimEnd) (from to : Sim) (line : List ℕ) (before mid now : Written) (ready : List ℕ) (reason : Option Stop)
+pub last_finished : (how : SimEnd) (from to : Sim) (line : List ℕ) (before mid now : Written) (ready : List ℕ) (reason : Option LinesEnd)
     → Played from to line before.bytes mid.bytes ready → reason ≡ to.end → before.failures ≤ mid.failures
     → Finishes how reason mid now ready → LastWrites how line from before now
 last_finished Done from to line before mid now ready reason played why later ends =
     (played_text from to line before.bytes mid.bytes now.bytes ready played ends.0, ends.1 ∙ played_end from to line before.bytes mid.bytes ready reason played why)
-last_finished (LineRefused number) from to line before mid now ready reason played why later ends =
+last_finished (LineRefused number fault) from to line before mid now ready reason played why later ends =
     (played_text from to line before.bytes mid.bytes now.bytes ready played ends.0, ends.1 ∙ played_end from to line before.bytes mid.bytes ready reason played why)
 last_finished HistoryFull from to line before mid now ready reason played why later ends =
     (played_text from to line before.bytes mid.bytes now.bytes ready played ends.0, ends.1 ∙ played_end from to line before.bytes mid.bytes ready reason played why)

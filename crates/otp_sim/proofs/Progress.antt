@@ -7,10 +7,13 @@ use Rattle.std.proofs.lemmas.List.Splits.{slice_split_at, slice_split_none, slic
 use Rattle.std.proofs.lemmas.Bool.{lt-ltb, ltb-true, ltb-false, eqb-true}
 use Rattle.std.proofs.lemmas.List.Sums.{fails_before_first, passes_at_first, split_at_first}
 use Rattle.std.proofs.lemmas.List.Elements.{All-head, All-tail, All-append, All-from_get_or}
-use Rattle.otp_text.specs.Words.{words_of}
-use Rattle.otp_text.specs.Lines.{line_of, line_of_words}
+use Rattle.otp_text.specs.LineFaults.{at_word, line_fault, verb_fault}
+use Rattle.otp_text.specs.declared.fault.text.LineFault.TheVariants as fault
+use Rattle.otp_text.specs.Words.{take_word, words_of}
+use Rattle.otp_text.specs.Lines.{line_of, line_of_words, verb_of}
 use Rattle.otp_sim.specs.Devices.{Begins}
 use Rattle.otp_sim.specs.Sim.{Sim, begin_form, begin_line, followed, settled, take_line, take_lines, lines_of, but_last}
+use Rattle.otp_sim.specs.declared.driven.LinesEnd.TheVariants as stop
 use Rattle.otp_sim.specs.declared.engine.SimEnd.{SimEnd}
 use Rattle.otp_sim.specs.declared.engine.SimEnd.TheVariants.{Done, LineRefused, HistoryFull, InputFailed, OutputFailed, Memory}
 use Rattle.otp_sim.specs.Runs.{Served, Ran, Played, Stopped, LineEnds, Broke, Halted, PieceEnds, Flushes, NoEnd, WroteFirst, begun, begun_first, with_text}
@@ -35,7 +38,7 @@ take_one line s = refl
 -- after the end no line is taken
 begin_ended : (line : List ℕ) (s : Sim) → is_some s.end ≡ true → begin_line line s ≡ s
 unfolding begin_line
-begin_ended line s e = ap (λ ended. cond ended s (begin_form (line_of line) (record s { lines = s.lines + 1 }))) e
+begin_ended line s e = ap (λ ended. cond ended s (begin_form line (line_of line) (record s { lines = s.lines + 1 }))) e
 
 take_lines_ended : (lines : List (List ℕ)) (s : Sim) → is_some s.end ≡ true → take_lines lines s ≡ s
 unfolding take_lines take_line
@@ -154,11 +157,27 @@ too_long (byte ∷ line) rest long =
     let longer : 512 < length ((byte ∷ line) ++ rest) = omega (arith, length-append (byte ∷ line) rest) in
     ap (λ test. cond test None (line_of_words (words_of ((byte ∷ line) ++ rest)))) (lt-ltb 512 (length ((byte ∷ line) ++ rest)) longer)
 
+fault_too_long : (line rest : List ℕ) → 512 < length line → line_fault (line ++ rest) ≡ fault.TooLong
+unfolding line_fault
+fault_too_long line rest long =
+    let longer : 512 < length (line ++ rest) = omega (arith, length-append line rest) in
+    ap (λ test. cond test fault.TooLong (at_word fault.UnknownVerb (take_word (words_of (line ++ rest))) (λ word others. verb_fault (verb_of word) word others)))
+    (lt-ltb 512 (length (line ++ rest)) longer)
+
+form_too_long : (line rest : List ℕ) (s : Sim) → 512 < length line
+    → begin_form (line ++ rest) (line_of (line ++ rest)) s ≡ record s { end = Some (stop.LineRefused s.lines fault.TooLong) }
+unfolding begin_form
+form_too_long line rest s long =
+    ap (λ form. begin_form (line ++ rest) form s) (too_long line rest long)
+    ∙ ap (λ why. record s { end = Some (stop.LineRefused s.lines why) }) (fault_too_long line rest long)
+
 begin_same : (line rest : List ℕ) (s : Sim) → 512 < length line → begin_line (line ++ rest) s ≡ begin_line line s
 unfolding begin_line
 begin_same line rest s long =
-    ap (λ form. cond (is_some s.end) s (begin_form form (record s { lines = s.lines + 1 })))
-    (too_long line rest long ∙ sym (ap line_of (sym (append-nil line)) ∙ too_long line [] long))
+    let next : Sim = record s { lines = s.lines + 1 } in
+    ap (λ (m : Sim). cond (is_some s.end) s m)
+    (form_too_long line rest next long
+    ∙ sym (ap (λ (bytes : List ℕ). begin_form bytes (line_of bytes) next) (sym (append-nil line)) ∙ form_too_long line [] next long))
 
 begun_same : (events : ℕ) (line rest : List ℕ) (s : Sim) → 512 < length line → begun events (line ++ rest) s ≡ begun events line s
 unfolding begun
@@ -173,7 +192,7 @@ begin_refused : (line : List ℕ) (s : Sim) → 512 < length line → is_some (b
 unfolding begin_line begin_form
 begin_refused line s long =
     rw (ap line_of (sym (append-nil line)) ∙ too_long line [] long)
-    (elim (is_some s.end) as (λ ended. is_some s.end ≡ ended → is_some (cond ended s (begin_form None (record s { lines = s.lines + 1 }))).end ≡ true)
+    (elim (is_some s.end) as (λ ended. is_some s.end ≡ ended → is_some (cond ended s (begin_form line None (record s { lines = s.lines + 1 }))).end ≡ true)
     [ true ↦ λ e. e | false ↦ λ e. refl ] refl)
 
 refused_ends : (line : List ℕ) (s : Sim) → 512 < length line → is_some (take_line line s).end ≡ true
@@ -387,7 +406,7 @@ pub piece_then : (how : SimEnd) (start s : Sim) (before mid now : Written) (read
     → Ran start s before.bytes mid.bytes ready taken waiting → before.failures ≤ mid.failures
     → PieceEnds (Err how) (with_text ready s) mid now waiting → PieceEnds (Err how) start before now taken
 piece_then Done start s before mid now ready taken waiting ran later ends = ends
-piece_then (LineRefused number) start s before mid now ready taken waiting ran later ends = ends
+piece_then (LineRefused number fault) start s before mid now ready taken waiting ran later ends = ends
 piece_then HistoryFull start s before mid now ready taken waiting ran later ends = ends
 piece_then InputFailed start s before mid now ready taken waiting ran later ends = ends
 piece_then OutputFailed start s before mid now ready taken waiting ran later ends =
@@ -400,7 +419,7 @@ pub flushed : (how : SimEnd) (start s : Sim) (before mid now : Written) (ready t
     → Ran start s before.bytes mid.bytes ready taken waiting → before.failures ≤ mid.failures → Flushes how mid now ready
     → PieceEnds (Err how) start before now taken
 flushed Done start s before mid now ready taken waiting ran later flushes = flushes
-flushed (LineRefused number) start s before mid now ready taken waiting ran later flushes = flushes
+flushed (LineRefused number fault) start s before mid now ready taken waiting ran later flushes = flushes
 flushed HistoryFull start s before mid now ready taken waiting ran later flushes = flushes
 flushed InputFailed start s before mid now ready taken waiting ran later flushes = flushes
 flushed OutputFailed start s before mid now ready taken waiting ran later flushes =
@@ -494,7 +513,7 @@ pub line_piece : (how : SimEnd) (s : Sim) (before now : Written) (ready line : L
     → (others : List ℕ) → PieceEnds (Err how) (with_text ready s) before now (line ++ 10 ∷ others)
 unfolding take_lines begun_first
 line_piece Done s before now ready line none ends others = ends
-line_piece (LineRefused number) s before now ready line none ends others = ends
+line_piece (LineRefused number fault) s before now ready line none ends others = ends
 line_piece HistoryFull s before now ready line none ends others = ends
 line_piece InputFailed s before now ready line none ends others = ends
 line_piece OutputFailed s before now ready line none ends others =

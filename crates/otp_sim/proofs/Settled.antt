@@ -4,8 +4,8 @@ use Rattle.std.proofs.lemmas.Bool.{false≢true}
 use Rattle.otp_rules.specs.declared.event.Kind.{Kind}
 use Rattle.otp_rules.specs.Step.{step}
 use Rattle.otp_rules.specs.Next.{idle_kind}
-use Rattle.otp_sim.specs.declared.driven.Stop.{Stop}
-use Rattle.otp_sim.specs.declared.driven.Stop.TheVariants as stop
+use Rattle.otp_sim.specs.declared.driven.LinesEnd.{LinesEnd}
+use Rattle.otp_sim.specs.declared.driven.LinesEnd.TheVariants as stop
 use Rattle.otp_sim.specs.Sim.{Sim, event_of, followed, happen, if_some, next_kind, settled, stepped, went_on}
 
 -- where nothing follows
@@ -105,7 +105,7 @@ remaining_falls k s next =
       | true ↦ λ e. let none : remaining (happen k s) ≡ 0 = ap remaining (happen_full k s e) in omega (arith, none, going)
       | false ↦ λ e.
           let room : (happen k s).room ≡ s.room - 1 = happen_room k s e in
-          let left : remaining (happen k s) ≡ (happen k s).room + 1 = ap (λ (b : Bool). if b then 0 else ((happen k s).room + 1)) (ap (λ (o : Option Stop). is_some o) (happen_end k s e) ∙ goes_on k s next) in
+          let left : remaining (happen k s) ≡ (happen k s).room + 1 = ap (λ (b : Bool). if b then 0 else ((happen k s).room + 1)) (ap (λ (o : Option LinesEnd). is_some o) (happen_end k s e) ∙ goes_on k s next) in
           let some : s.room ≢ 0 = λ zero. absurd (false≢true (sym e ∙ is_zero s.room zero)) in
           omega (arith, room, left, going, some)
     ]) refl

@@ -10,7 +10,7 @@ use Rattle.otp_text.specs.declared.line.Line.{Line}
 use Rattle.otp_text.specs.declared.line.Line.TheVariants as line
 use Rattle.otp_text.specs.Lines.{line_of}
 use Rattle.otp_sim.specs.Sim.{Sim, event_of, stepped, happen, next_kind, if_some, went_on, followed, settled, is_due, ticked, take_read, begin_form, begin_line, take_line, take_lines, orders_text}
-use Rattle.otp_sim.specs.declared.driven.Stop.TheVariants.{HistoryFull}
+use Rattle.otp_sim.specs.declared.driven.LinesEnd.TheVariants.{HistoryFull}
 use Rattle.otp_sim.specs.Devices.{Begins}
 use Rattle.otp_sim.specs.Runs.{with_text, begun, begun_first}
 
@@ -68,18 +68,18 @@ take_read_after front (line.Note note) s = happen_after front _ s
 take_read_after front line.Stop s = refl
 take_read_after front (line.Call call) s = happen_after front _ (record s { calls = s.calls + 1 })
 
-begin_form_after : (front : List ℕ) (read : Option Line) (s : Sim) → begin_form read (after front s) ≡ after front (begin_form read s)
+begin_form_after : (front bytes : List ℕ) (read : Option Line) (s : Sim) → begin_form bytes read (after front s) ≡ after front (begin_form bytes read s)
 unfolding begin_form
-begin_form_after front None s = refl
-begin_form_after front (Some read) s = take_read_after front read s
+begin_form_after front bytes None s = refl
+begin_form_after front bytes (Some read) s = take_read_after front read s
 
 begin_line_after : (front bytes : List ℕ) (s : Sim) → begin_line bytes (after front s) ≡ after front (begin_line bytes s)
 unfolding begin_line
 begin_line_after front bytes s =
     elim (is_some s.end) as (λ ended.
-    cond ended (after front s) (begin_form (line_of bytes) (after front (record s { lines = s.lines + 1 })))
-    ≡ after front (cond ended s (begin_form (line_of bytes) (record s { lines = s.lines + 1 }))))
-    [ true ↦ refl | false ↦ begin_form_after front (line_of bytes) (record s { lines = s.lines + 1 }) ]
+    cond ended (after front s) (begin_form bytes (line_of bytes) (after front (record s { lines = s.lines + 1 })))
+    ≡ after front (cond ended s (begin_form bytes (line_of bytes) (record s { lines = s.lines + 1 }))))
+    [ true ↦ refl | false ↦ begin_form_after front bytes (line_of bytes) (record s { lines = s.lines + 1 }) ]
 
 pub take_line_after : (front bytes : List ℕ) (s : Sim) → take_line bytes (after front s) ≡ after front (take_line bytes s)
 unfolding take_line

@@ -29,7 +29,7 @@ pub record CountsErrors {T E : Type 0} (before now : ℕ) (result : Result T E) 
   pub failed : OnErr result (before < now)
   pub once : now ≤ before + 1
 
--- and so is a write that takes none of the bytes, after which no other is tried
+-- failures of writes are counted: also one that takes none of the bytes, after which no other is tried
 pub record CountsWrites {E : Type 0} (before now : ℕ) (result : Result ℕ E) (bytes : List ℕ) : Type 0 where
   pub kept : before ≤ now
   pub once : now ≤ before + 1
@@ -41,7 +41,7 @@ pub record CountsCall (before now : ℕ) (result : Result ℕ Error) : Type 0 wh
   pub interrupted : IfErr result (λ error. error_kind error ≡ Interrupted → now ≡ before)
   pub failed : IfErr result (λ error. ¬ (error_kind error ≡ Interrupted) → now ≡ before + 1)
 
--- and a write of some bytes failed too where it took none of them
+-- what one write of a device comes to: of some bytes it failed, too, where it took none of them
 pub record CountsWriteCall (before now : ℕ) (result : Result ℕ Error) (bytes : List ℕ) : Type 0 where
   pub errors : CountsCall before now result
   pub some : IfOk result (λ taken. 0 < taken → now ≡ before)

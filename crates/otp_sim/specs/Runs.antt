@@ -5,7 +5,7 @@ use Rattle.std.specs.Io.KnownBytes.{Appends, Consumes, IsAtEnd, Keeps}
 use Rattle.otp_sim.specs.declared.engine.TheConstants.{MOST_BYTES}
 use Rattle.otp_sim.specs.declared.engine.SimEnd.{SimEnd}
 use Rattle.otp_sim.specs.declared.engine.SimEnd.TheVariants.{Done, LineRefused, HistoryFull, InputFailed, OutputFailed, Memory}
-use Rattle.otp_sim.specs.declared.driven.Stop.{Stop}
+use Rattle.otp_sim.specs.declared.driven.LinesEnd.{LinesEnd}
 use Rattle.otp_sim.specs.Devices.{Begins, AppendsPart, Devices, Written}
 use Rattle.otp_sim.specs.Sim.{Sim, begin_line, followed, take_line, take_lines, lines_of, sim_text, sim_end, whole_text, end_of}
 
@@ -18,7 +18,7 @@ unfoldable pub begun : ℕ → List ℕ → Sim → Sim
 begun zero line s = s
 begun (suc events) line s = followed events (begin_line line s)
 
--- the same of the first of these lines, if there is one
+-- so many of the events of the first of these lines, if there is one
 unfoldable pub begun_first : ℕ → List (List ℕ) → Sim → Sim
 begun_first events [] s = s
 begun_first events (line ∷ _) s = begun events line s
@@ -35,7 +35,7 @@ pub record Ran (start s : Sim) (before now : Option (List ℕ)) (ready taken wai
   pub appended : Appends before now written
   pub served : Served start taken waiting (with_text (written ++ ready) s)
 
--- the same from a state with this text ready
+-- what was written and taken by a run from a state with this text ready
 abbrev pub RanFrom : List ℕ → Sim → Sim → Written → Written → List ℕ → List ℕ → List ℕ → Type 0
 RanFrom ready s t before now left taken waiting = Ran (with_text ready s) t before.bytes now.bytes left taken waiting
 
@@ -85,7 +85,7 @@ pub record Took (count : ℕ) (old new : Devices) (buffer : List ℕ) : Type 0 w
 abbrev pub ReadsNext : Result ℕ SimEnd → Devices → Devices → List ℕ → List ℕ → List ℕ → Type 0
 ReadsNext (Ok count) old new ready left buffer = Told old new ready left × Took count old new buffer
 ReadsNext (Err Done) old new ready left buffer = ⊥
-ReadsNext (Err (LineRefused _)) old new ready left buffer = ⊥
+ReadsNext (Err (LineRefused _ _)) old new ready left buffer = ⊥
 ReadsNext (Err HistoryFull) old new ready left buffer = ⊥
 ReadsNext (Err InputFailed) old new ready left buffer = Told old new ready left × Keeps old.input.left new.input.left × (old.input.failures < new.input.failures)
 ReadsNext (Err OutputFailed) old new ready left buffer =
@@ -94,9 +94,9 @@ ReadsNext (Err OutputFailed) old new ready left buffer =
 ReadsNext (Err Memory) old new ready left buffer = ⊥
 
 -- what is ready is written where the lines end for this reason, or for none
-abbrev pub Finishes : SimEnd → Option Stop → Written → Written → List ℕ → Type 0
+abbrev pub Finishes : SimEnd → Option LinesEnd → Written → Written → List ℕ → Type 0
 Finishes Done reason before now ready = Appends before.bytes now.bytes ready × (Done ≡ end_of reason)
-Finishes (LineRefused line) reason before now ready = Appends before.bytes now.bytes ready × (LineRefused line ≡ end_of reason)
+Finishes (LineRefused line why) reason before now ready = Appends before.bytes now.bytes ready × (LineRefused line why ≡ end_of reason)
 Finishes HistoryFull reason before now ready = Appends before.bytes now.bytes ready × (HistoryFull ≡ end_of reason)
 Finishes InputFailed reason before now ready = ⊥
 Finishes OutputFailed reason before now ready = AppendsPart before.bytes now.bytes ready × (before.failures < now.failures)
@@ -105,7 +105,7 @@ Finishes Memory reason before now ready = ⊥
 -- what was written from this start on, by how the run ended
 abbrev pub Writes : SimEnd → Sim → Devices → Devices → Type 0
 Writes Done start old new = IfSome old.input.left (WroteAll start old.output.bytes new.output.bytes Done)
-Writes (LineRefused line) start old new = IfSome old.input.left (WroteAll start old.output.bytes new.output.bytes (LineRefused line))
+Writes (LineRefused line why) start old new = IfSome old.input.left (WroteAll start old.output.bytes new.output.bytes (LineRefused line why))
 Writes HistoryFull start old new = IfSome old.input.left (WroteAll start old.output.bytes new.output.bytes HistoryFull)
 Writes InputFailed start old new = WroteLines start old new
 Writes OutputFailed start old new = IfSome old.input.left (WrotePart start old.output.bytes new.output.bytes) × (old.output.failures < new.output.failures)
@@ -115,7 +115,7 @@ Writes Memory start old new = (new ≡ old) ⊎ IfSome old.input.left (WroteFirs
 -- for want of memory what was ready was written, or the writer failed in it
 abbrev pub Flushes : SimEnd → Written → Written → List ℕ → Type 0
 Flushes Done before now ready = ⊥
-Flushes (LineRefused _) before now ready = ⊥
+Flushes (LineRefused _ _) before now ready = ⊥
 Flushes HistoryFull before now ready = ⊥
 Flushes InputFailed before now ready = ⊥
 Flushes OutputFailed before now ready = AppendsPart before.bytes now.bytes ready × (before.failures < now.failures)
@@ -136,7 +136,7 @@ pub record Stopped (from : Sim) (line : List ℕ) (before now : Option (List ℕ
 abbrev pub LineEnds : Result (Unit {0}) SimEnd → Sim → List ℕ → Written → Written → Type 0
 LineEnds (Ok _) from line before now = Unit {0}
 LineEnds (Err Done) from line before now = ⊥
-LineEnds (Err (LineRefused _)) from line before now = ⊥
+LineEnds (Err (LineRefused _ _)) from line before now = ⊥
 LineEnds (Err HistoryFull) from line before now = ⊥
 LineEnds (Err InputFailed) from line before now = ⊥
 LineEnds (Err OutputFailed) from line before now = AppendsPart before.bytes now.bytes (take_line line from).text × (before.failures < now.failures)
@@ -145,7 +145,7 @@ LineEnds (Err Memory) from line before now = Stopped from line before.bytes now.
 -- from s on a last line was served, and its text written, by how that ended
 abbrev pub LastWrites : SimEnd → List ℕ → Sim → Written → Written → Type 0
 LastWrites Done line s before now = Appends before.bytes now.bytes (take_line line s).text × (Done ≡ end_of (take_line line s).end)
-LastWrites (LineRefused number) line s before now = Appends before.bytes now.bytes (take_line line s).text × (LineRefused number ≡ end_of (take_line line s).end)
+LastWrites (LineRefused number why) line s before now = Appends before.bytes now.bytes (take_line line s).text × (LineRefused number why ≡ end_of (take_line line s).end)
 LastWrites HistoryFull line s before now = Appends before.bytes now.bytes (take_line line s).text × (HistoryFull ≡ end_of (take_line line s).end)
 LastWrites InputFailed line s before now = ⊥
 LastWrites OutputFailed line s before now = AppendsPart before.bytes now.bytes (take_line line s).text × (before.failures < now.failures)
@@ -170,7 +170,7 @@ pub record Halted (start : Sim) (before now : Option (List ℕ)) (taken : List �
 abbrev pub PieceEnds : Result (Unit {0}) SimEnd → Sim → Written → Written → List ℕ → Type 0
 PieceEnds (Ok _) start before now taken = Unit {0}
 PieceEnds (Err Done) start before now taken = ⊥
-PieceEnds (Err (LineRefused _)) start before now taken = ⊥
+PieceEnds (Err (LineRefused _ _)) start before now taken = ⊥
 PieceEnds (Err HistoryFull) start before now taken = ⊥
 PieceEnds (Err InputFailed) start before now taken = ⊥
 PieceEnds (Err OutputFailed) start before now taken = Broke start before.bytes now.bytes taken × (before.failures < now.failures)

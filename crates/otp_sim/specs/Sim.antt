@@ -20,9 +20,10 @@ use Rattle.otp_rules.specs.Needs.{needs_number}
 use Rattle.otp_text.specs.declared.line.Line.{Line}
 use Rattle.otp_text.specs.declared.line.Line.TheVariants as line
 use Rattle.otp_text.specs.Effects.{effect_line}
+use Rattle.otp_text.specs.LineFaults.{line_fault}
 use Rattle.otp_text.specs.Lines.{line_of}
-use Rattle.otp_sim.specs.declared.driven.Stop.{Stop}
-use Rattle.otp_sim.specs.declared.driven.Stop.TheVariants as stop
+use Rattle.otp_sim.specs.declared.driven.LinesEnd.{LinesEnd}
+use Rattle.otp_sim.specs.declared.driven.LinesEnd.TheVariants as stop
 use Rattle.otp_sim.specs.declared.engine.SimEnd.{SimEnd}
 use Rattle.otp_sim.specs.declared.engine.SimEnd.TheVariants.{Done, LineRefused, HistoryFull}
 
@@ -43,7 +44,7 @@ pub record Sim : Type 0 where
   -- what has been printed
   pub text : List ℕ
   -- why no line is read any more, if none is
-  pub end : Option Stop
+  pub end : Option LinesEnd
 
 -- the answer that an order tells of
 unfoldable pub told_by : Effect → List Answered → Option Reply
@@ -121,14 +122,14 @@ take_read (line.Note note) s = happen (kind.Took (item.Note note)) s
 take_read line.Stop s = record s { is_stopping = true }
 take_read (line.Call call) s = happen (kind.Took (item.Call (s.calls + 1) call)) (record s { calls = s.calls + 1 })
 
--- what a line does by itself that has a form, and one that has none
-unfoldable pub begin_form : Option Line → Sim → Sim
-begin_form None s = record s { end = Some (stop.LineRefused s.lines) }
-begin_form (Some read) s = take_read read s
+-- what a line does by itself that has a form, and one that has none, whose fault is told
+unfoldable pub begin_form : List ℕ → Option Line → Sim → Sim
+begin_form bytes None s = record s { end = Some (stop.LineRefused s.lines (line_fault bytes)) }
+begin_form bytes (Some read) s = take_read read s
 
 -- what a line of the input does by itself; after the end it does nothing
 unfoldable pub begin_line : List ℕ → Sim → Sim
-begin_line bytes s = if is_some s.end then s else begin_form (line_of bytes) (record s { lines = s.lines + 1 })
+begin_line bytes s = if is_some s.end then s else begin_form bytes (line_of bytes) (record s { lines = s.lines + 1 })
 
 -- a line of the input, and all that follows
 unfoldable pub take_line : List ℕ → Sim → Sim
@@ -168,9 +169,9 @@ abbrev pub sim_text : Sim → List ℕ → List ℕ
 sim_text start bytes = (sim_of start bytes).text
 
 -- how a run ends that stops for this reason, or for none
-abbrev pub end_of : Option Stop → SimEnd
+abbrev pub end_of : Option LinesEnd → SimEnd
 end_of None = Done
-end_of (Some (stop.LineRefused line)) = LineRefused line
+end_of (Some (stop.LineRefused line why)) = LineRefused line why
 end_of (Some stop.HistoryFull) = HistoryFull
 
 -- how the input ends

@@ -5,6 +5,7 @@ ghost use Rattle.otp_sim.specs.Sim.{Sim, begin_line, next_kind, went_on};
 ghost use Rattle.otp_sim.specs.Runs.{with_text};
 ghost use Rattle.otp_sim.specs.declared.driven.TheConstants.{LINE_LIMIT};
 
+use otp_text::LineFault;
 use std::alloc::AllocError;
 
 /// No input has so many lines: a run reads less than that in bytes.
@@ -12,9 +13,9 @@ pub const LINE_LIMIT: u64 = 1 << 63;
 
 /// Why no line is taken any more.
 #[derive(Clone, Copy, Debug, PartialEq, Eq)]
-pub enum Stop {
-    /// The line with this number, counted from 1, has no form that is read.
-    LineRefused(u64),
+pub enum LinesEnd {
+    /// The line with this number, counted from 1, has no form that is read, for this reason.
+    LineRefused(u64, LineFault),
     /// There were 2^62 events, as many as a supervisor has in its life.
     HistoryFull,
 }
@@ -47,6 +48,6 @@ pub trait Driven {
         ensures lines { OnOk result ((sim self.new).lines ≡ (sim self.old).lines) };
 
     /// Why no line is taken any more, if none is.
-    fn end(&self) -> Option<Stop>
+    fn end(&self) -> Option<LinesEnd>
         ensures { result ≡ (sim self.now).end };
 }

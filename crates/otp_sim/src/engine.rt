@@ -13,7 +13,7 @@ use crate::reading::read_next;
 use crate::serving::{serve_line, serve_piece};
 use crate::writing::{finish, out_of_memory, write_out};
 use otp_spec::SupSpec;
-use otp_text::LONGEST_LINE;
+use otp_text::{LONGEST_LINE, LineFault};
 use std::alloc::{AllocError, Global};
 
 /// How a run of `sim` ended.
@@ -21,8 +21,8 @@ use std::alloc::{AllocError, Global};
 pub enum SimEnd {
     /// All of the input was read.
     Done,
-    /// The line with this number, counted from 1, has no form that is read.
-    LineRefused(u64),
+    /// The line with this number, counted from 1, has no form that is read, for this reason.
+    LineRefused(u64, LineFault),
     /// There were 2^62 events, as many as a supervisor has in its life.
     HistoryFull,
     /// The input failed.

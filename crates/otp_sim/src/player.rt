@@ -10,12 +10,14 @@ ghost use Rattle.otp_sim.specs.Devices.{Begins};
 ghost use Rattle.otp_sim.specs.Runs.{with_text};
 ghost use Rattle.otp_sim.specs.declared.driven.TheConstants.{LINE_LIMIT};
 
-use crate::driven::Stop;
+use crate::driven::LinesEnd;
 use otp_core::{Core, EventFault, MAX_EVENTS, ReplyAnswer};
 use otp_reason::Note;
 use otp_rules::{Effect, Item, Kind, Reply};
 use otp_spec::SupSpec;
-use otp_text::{Line, Printer, Verb, cut_verb, read_line_with, read_note_with, read_without_verb};
+use otp_text::{
+    Line, Printer, Verb, cut_verb, line_fault, read_line_with, read_note_with, read_without_verb,
+};
 use std::alloc::{AllocError, Global};
 use std::marker::Model;
 
@@ -31,7 +33,7 @@ pub struct Player {
     is_stopping: bool,
     /// How many lines were read.
     lines: u64,
-    end: Option<Stop>,
+    end: Option<LinesEnd>,
 }
 
 impl Model for Player {
@@ -119,7 +121,7 @@ impl Player {
         match self.core.happen_after(MAX_EVENTS, self.reading, kind, last) {
             Ok(_) => {}
             Err(EventFault::HistoryFull) => {
-                self.end = Some(Stop::HistoryFull);
+                self.end = Some(LinesEnd::HistoryFull);
                 return Ok(());
             }
             // No order waits.
@@ -205,17 +207,22 @@ impl Player {
 impl Player {
     /// What a line does by itself that has a form, or none.
     #[tactic(auto, unfolding(crate::specs::Sim::begin_form))]
-    fn begin_form(&mut self, line: Option<Line>, out: &mut Vec<u8>) -> Result<(), AllocError>
+    fn begin_form(
+        &mut self,
+        bytes: &[u8],
+        line: Option<Line>,
+        out: &mut Vec<u8>,
+    ) -> Result<(), AllocError>
         requires calls { self.old.calls < self.old.lines }
         requires time { IfSome line (λ read. IsTimely read) }
         requires lines { self.old.lines < LINE_LIMIT }
-        ensures ok { OnOk result (with_text out.new.items self.new ≡ begin_form line (with_text out.old.items self.old)) }
+        ensures ok { OnOk result (with_text out.new.items self.new ≡ begin_form bytes.now line (with_text out.old.items self.old)) }
         ensures kept { Begins out.old.items out.new.items }
         ensures lines { self.new.lines ≡ self.old.lines }
     {
         match line {
             None => {
-                self.end = Some(Stop::LineRefused(self.lines));
+                self.end = Some(LinesEnd::LineRefused(self.lines, line_fault(bytes)));
                 Ok(())
             }
             Some(read) => self.take_read(read, out),
@@ -239,8 +246,8 @@ impl Player {
         }
         self.lines += 1;
         match cut_verb(line) {
-            Some((verb, rest)) => self.play_verb(verb, rest, out),
-            None => self.begin_form(read_without_verb(line), out),
+            Some((verb, rest)) => self.play_verb(line, verb, rest, out),
+            None => self.begin_form(line, read_without_verb(line), out),
         }
     }
 
@@ -248,19 +255,20 @@ impl Player {
     #[tactic(auto, unfolding(crate::specs::Sim::begin_form))]
     fn play_verb(
         &mut self,
+        bytes: &[u8],
         verb: Verb,
         rest: Option<&[u8]>,
         out: &mut Vec<u8>,
     ) -> Result<(), AllocError>
         requires calls { self.old.calls < self.old.lines }
         requires lines { self.old.lines < LINE_LIMIT }
-        ensures ok { OnOk result (with_text out.new.items self.new ≡ begin_form (line_with verb (words_left (option_copied rest.entry))) (with_text out.old.items self.old)) }
+        ensures ok { OnOk result (with_text out.new.items self.new ≡ begin_form bytes.now (line_with verb (words_left (option_copied rest.entry))) (with_text out.old.items self.old)) }
         ensures kept { Begins out.old.items out.new.items }
         ensures lines { self.new.lines ≡ self.old.lines }
     {
         match read_note_with(verb, rest) {
             Some(note) => self.take_note(note, out),
-            None => self.play_other(verb, rest, out),
+            None => self.play_other(bytes, verb, rest, out),
         }
     }
 
@@ -269,21 +277,22 @@ impl Player {
     #[inline(never)]
     fn play_other(
         &mut self,
+        bytes: &[u8],
         verb: Verb,
         rest: Option<&[u8]>,
         out: &mut Vec<u8>,
     ) -> Result<(), AllocError>
         requires calls { self.old.calls < self.old.lines }
         requires lines { self.old.lines < LINE_LIMIT }
-        ensures ok { OnOk result (with_text out.new.items self.new ≡ begin_form (line_with verb (words_left (option_copied rest.entry))) (with_text out.old.items self.old)) }
+        ensures ok { OnOk result (with_text out.new.items self.new ≡ begin_form bytes.now (line_with verb (words_left (option_copied rest.entry))) (with_text out.old.items self.old)) }
         ensures kept { Begins out.old.items out.new.items }
         ensures lines { self.new.lines ≡ self.old.lines }
     {
-        self.begin_form(read_line_with(verb, rest), out)
+        self.begin_form(bytes, read_line_with(verb, rest), out)
     }
 
     /// Why no line is taken any more, if none is.
-    pub(crate) fn stop(&self) -> Option<Stop>
+    pub(crate) fn stop(&self) -> Option<LinesEnd>
         ensures { result ≡ self.now.end }
     {
         self.end

@@ -1,6 +1,6 @@
 //! Events that are printed whole or not at all.
 
-use crate::driven::{Driven, Stop};
+use crate::driven::{Driven, LinesEnd};
 use crate::player::Player;
 use std::alloc::AllocError;
 
@@ -27,7 +27,7 @@ impl Driven for Player {
         went_on
     }
 
-    fn end(&self) -> Option<Stop> {
+    fn end(&self) -> Option<LinesEnd> {
         self.stop()
     }
 }

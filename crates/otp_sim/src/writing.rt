@@ -8,7 +8,7 @@ ghost use Rattle.otp_sim.specs.Runs.{Finishes, Flushes};
 ghost use Rattle.otp_sim.specs.Sim.{end_of};
 
 use crate::device::{Failed, Output, PIECE};
-use crate::driven::Stop;
+use crate::driven::LinesEnd;
 use crate::engine::SimEnd;
 
 /// Writes what is ready, if it is much: not each line by itself.
@@ -61,7 +61,11 @@ pub(crate) fn out_of_memory<W: Output>(output: &mut W, ready: &mut Vec<u8>) -> S
 }
 
 /// How a run ends whose lines end for this reason, or for none, once what is ready is written.
-pub(crate) fn finish<W: Output>(output: &mut W, ready: &mut Vec<u8>, stop: Option<Stop>) -> SimEnd
+pub(crate) fn finish<W: Output>(
+    output: &mut W,
+    ready: &mut Vec<u8>,
+    stop: Option<LinesEnd>,
+) -> SimEnd
     ensures end { Finishes result stop (W.seen output.old) (W.seen output.new) ready.old.items }
     ensures kept { (W.seen output.old).failures ≤ (W.seen output.new).failures }
 {
@@ -72,13 +76,13 @@ pub(crate) fn finish<W: Output>(output: &mut W, ready: &mut Vec<u8>, stop: Optio
 }
 
 /// How a run ends that stops for this reason, or for none.
-fn end_of(stop: Option<Stop>) -> SimEnd
+fn end_of(stop: Option<LinesEnd>) -> SimEnd
     ensures { result ≡ end_of stop }
 {
     match stop {
         None => SimEnd::Done,
-        Some(Stop::LineRefused(line)) => SimEnd::LineRefused(line),
-        Some(Stop::HistoryFull) => SimEnd::HistoryFull,
+        Some(LinesEnd::LineRefused(line, why)) => SimEnd::LineRefused(line, why),
+        Some(LinesEnd::HistoryFull) => SimEnd::HistoryFull,
     }
 }
 

@@ -30,7 +30,7 @@ default_spec id start = record {
   modules = One start;
 }
 
--- the same of a child of this type, with the default of its type
+-- the specification of a child of this type, with the default of its type
 abbrev pub default_spec_of : ChildType → Name → Name → ChildSpec
 default_spec_of kind id start = record (default_spec id start) { shutdown = default_shutdown kind; kind = kind }
 

@@ -1,1 +1,5 @@
 mod EdgeFound
+mod FewStamps
+mod LeastBest
+mod LeastFound
+mod Puts

@@ -1,5 +1,5 @@
 -- The child of a tree with a name (own).
-use Rattle.std.specs.Prelude.{◌≡◌, ℕ, ◌+◌, List, [], ◌∷◌, Option, Some, None, if◌then◌else◌}
+use Rattle.std.specs.Prelude.{ℕ, ◌+◌, List, [], ◌∷◌, Option, Some, None, if◌then◌else◌}
 use Rattle.std.specs.Str.{bytes_eq}
 use Rattle.otp_costs.specs.Groups.{below}
 use Rattle.otp_spec.specs.declared.child.ChildSpec.{ChildSpec}
@@ -15,7 +15,7 @@ abbrev pub found_at : ℕ → Option ChildSpec → Option (ℕ × ChildSpec) →
 found_at place None others = others
 found_at place (Some spec) others = Some (place, spec)
 
--- the same in these supervisors, of which the first stands at this place
+-- the child of this name in these supervisors, of which the first stands at this place
 abbrev pub child_from : ℕ → List ℕ → List Seated → Option (ℕ × ChildSpec)
 child_from place name [] = None
 child_from place name (seat ∷ seats) = found_at place (child_in seat.path name seat.base.specs) (child_from (place + 1) name seats)

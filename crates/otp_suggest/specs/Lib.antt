@@ -1,6 +1,13 @@
+pub mod Courses
 pub mod Edges
 pub mod Times
 pub mod Gaps
+pub mod Asked
 pub mod Found
+pub mod Advised
 pub mod Told
 pub mod Refused
+pub mod Few
+pub mod Remedies
+pub mod Levers
+pub mod RootTold

@@ -1,50 +1,30 @@
 -- What would survive crashes of a child, as it is told (own).
-use Rattle.std.specs.Prelude.{◌≡◌, ◌⊎◌, ℕ, Bool, true, false, ◌||◌, List, [], ◌++◌, Option, Some, None, codes, decimal, slice_index_or}
+use Rattle.std.specs.Prelude.{◌≡◌, ℕ, Bool, true, false, ◌||◌, List, [], ◌++◌, Option, Some, None, codes, decimal}
 use Rattle.otp_file.specs.Trees.{Tree}
 use Rattle.otp_costs.specs.Table.{clip}
 use Rattle.otp_costs.specs.Words.{at_left}
-use Rattle.otp_limits.specs.Costs.{IsJudged, IsUnknown}
-use Rattle.otp_limits.specs.Falls.{supervisor_path}
-use Rattle.otp_limits.specs.Fates.{Plays}
-use Rattle.otp_trial.specs.declared.clock.Clock.{Clock}
-use Rattle.otp_trial.specs.declared.clock.Clock.TheVariants.{Milliseconds, Seconds}
-use Rattle.otp_limits.specs.declared.fate.Fate.{Fate}
-use Rattle.otp_limits.specs.declared.fate.Fate.TheVariants as fate
-use Rattle.otp_limits.specs.declared.steady.Verdict.{Verdict}
-use Rattle.otp_limits.specs.declared.steady.Verdict.TheVariants.{Falls, Lasts}
-use Rattle.otp_reason.specs.declared.name.Name.{Name}
-use Rattle.otp_spec.specs.declared.child.ChildSpec.{ChildSpec}
-use Rattle.otp_spec.specs.declared.child.ChildType.{ChildType}
-use Rattle.otp_spec.specs.declared.child.ChildType.TheVariants.{Worker, Supervisor}
+use Rattle.otp_costs.specs.Falls.{supervisor_path}
+use Rattle.otp_costs.specs.declared.limits.fate.Fate.{Fate}
+use Rattle.otp_costs.specs.declared.limits.fate.Fate.TheVariants as fate
+use Rattle.otp_costs.specs.declared.limits.steady.Verdict.{Verdict}
+use Rattle.otp_costs.specs.declared.limits.steady.Verdict.TheVariants.{Falls, Lasts}
 use Rattle.otp_spec.specs.declared.flags.SupFlags.{SupFlags}
 use Rattle.otp_spec.specs.declared.limits.TheConstants.{MAX_INTENSITY}
-use Rattle.otp_trial.specs.Played.{IsPlanted, Seated}
-use Rattle.otp_suggest.specs.Edges.{IsEdge, IsEdgeless, turned}
-use Rattle.otp_suggest.specs.Found.{child_from}
-use Rattle.otp_suggest.specs.declared.dial.Dial.TheVariants.{Intensity, Period}
-use Rattle.otp_suggest.specs.declared.edge.Edge.{Edge}
-use Rattle.otp_suggest.specs.declared.edge.Edge.TheVariants as edge
+use Rattle.otp_suggest.specs.Advised.{Finds}
+use Rattle.otp_suggest.specs.Courses.{apart_of}
 use Rattle.otp_suggest.specs.declared.advice.Advice.{Advice}
 use Rattle.otp_suggest.specs.declared.advice.Suggestion.{Suggestion}
-use Rattle.otp_suggest.specs.declared.refused.Answer.{Answer}
-use Rattle.otp_suggest.specs.declared.refused.Answer.TheVariants as reply
-
--- what one clock says of it: whether it is survived as the flags are, and the edge of each flag
-pub record IsAdvice (clock : Clock) (flags : SupFlags) (specs : List ChildSpec) (id : Name) (gap : ℕ) (advice : Advice) : Type 0 where
-  pub today : IsJudged clock flags specs id gap advice.today
-  pub intensity : IsEdge Intensity clock flags specs id gap advice.intensity
-  pub period : IsEdge Period clock flags specs id gap advice.period
-
--- what both clocks say, and how the supervisor fares with the greatest intensity where the child crashes twice at once
-pub record IsSuggestion (flags : SupFlags) (specs : List ChildSpec) (id : Name) (gap : ℕ) (said : Suggestion) : Type 0 where
-  pub twice : Plays (turned Intensity MAX_INTENSITY flags) specs Milliseconds id 0 2 said.twice
-  pub ours : IsAdvice Milliseconds flags specs id gap said.ours
-  pub theirs : IsAdvice Seconds flags specs id gap said.theirs
-
--- what they say can't be found: a run of crashes of this child can't be played to its end, with the flags as they are or with
--- another intensity or period
-unfoldable pub IsUnadvised : SupFlags → List ChildSpec → Name → Type 0
-IsUnadvised flags specs id = IsUnknown flags specs id ⊎ (IsEdgeless Intensity flags specs id ⊎ IsEdgeless Period flags specs id)
+use Rattle.otp_suggest.specs.declared.course.Question.{Question}
+use Rattle.otp_suggest.specs.declared.course.Question.TheVariants.{Every, Within}
+use Rattle.otp_suggest.specs.declared.edge.Edge.{Edge}
+use Rattle.otp_suggest.specs.declared.edge.Edge.TheVariants as edge
+use Rattle.otp_suggest.specs.declared.refused.SuggestionAnswer.{SuggestionAnswer}
+use Rattle.otp_suggest.specs.declared.refused.SuggestionAnswer.TheVariants as reply
+use Rattle.otp_suggest.specs.declared.subject.Finding.{Finding}
+use Rattle.otp_suggest.specs.declared.subject.Finding.TheVariants as finding
+use Rattle.otp_suggest.specs.declared.subject.Subject.{Subject}
+use Rattle.otp_suggest.specs.declared.told.Measure.{Measure}
+use Rattle.otp_suggest.specs.declared.told.Measure.TheVariants.{GreatestPeriod, LeastIntensity, Survived}
 
 unfoldable pub verdict_text : Verdict → List ℕ
 verdict_text Lasts = codes "yes"
@@ -80,27 +60,61 @@ has_text above intensity = clip 40 above ++ codes " has intensity " ++ decimal i
 unfoldable pub and_text : ℕ → List ℕ
 and_text period = codes " and period " ++ decimal period ++ codes " s\n"
 
-unfoldable pub question_text : List ℕ → List ℕ → ℕ → SupFlags → List ℕ
-question_text name above gap flags = crashes_text name gap ++ has_text above flags.intensity ++ and_text flags.period
+-- or how many come within a time
+unfoldable pub many_text : List ℕ → ℕ → List ℕ
+many_text name count = clip 40 name ++ codes " crashes " ++ decimal count ++ codes " times within "
+
+unfoldable pub times_text : List ℕ → ℕ → ℕ → List ℕ
+times_text name count time = many_text name count ++ gap_text time
+
+unfoldable pub asked_text : List ℕ → Question → List ℕ
+asked_text name (Every gap) = crashes_text name gap
+asked_text name (Within count time) = times_text name count time
+
+unfoldable pub question_text : List ℕ → List ℕ → Question → SupFlags → List ℕ
+question_text name above question flags = asked_text name question ++ has_text above flags.intensity ++ and_text flags.period
 
 -- the lines of the table
 unfoldable pub titles_text : List ℕ
 titles_text = line_text (codes "restarts counted") (codes "by milliseconds") (codes "by whole seconds, as OTP does")
 
-unfoldable pub today_text : Verdict → Verdict → List ℕ
-today_text ours theirs = line_text (codes "survived") (verdict_text ours) (verdict_text theirs)
+-- what an answer says in a line
+unfoldable pub title_of : Measure → List ℕ
+title_of Survived = codes "survived"
+title_of LeastIntensity = codes "least intensity"
+title_of GreatestPeriod = codes "greatest period"
 
-unfoldable pub intensities_text : Edge → Edge → List ℕ
-intensities_text ours theirs = line_text (codes "least intensity") (intensity_text ours) (intensity_text theirs)
+unfoldable pub measure_text : Measure → Advice → List ℕ
+measure_text Survived said = verdict_text said.today
+measure_text LeastIntensity said = intensity_text said.intensity
+measure_text GreatestPeriod said = period_text said.period
 
-unfoldable pub periods_text : Edge → Edge → List ℕ
-periods_text ours theirs = line_text (codes "greatest period") (period_text ours) (period_text theirs)
+unfoldable pub measure_line : Measure → Advice → Advice → List ℕ
+measure_line measure ours theirs = line_text (title_of measure) (measure_text measure ours) (measure_text measure theirs)
 
 -- the answer of both clocks
 unfoldable pub table_text : Advice → Advice → List ℕ
 table_text ours theirs =
-    titles_text ++ today_text ours.today theirs.today ++ intensities_text ours.intensity theirs.intensity
-    ++ periods_text ours.period theirs.period
+    titles_text ++ measure_line Survived ours theirs ++ measure_line LeastIntensity ours theirs ++ measure_line GreatestPeriod ours theirs
+
+-- a line of the table of so many crashes: what it says where they come at once, and where they are evenly spread, by each clock
+unfoldable pub row_text : List ℕ → List ℕ → List ℕ → List ℕ → List ℕ
+row_text title once even other = at_left 18 title ++ at_left 12 once ++ at_left 22 even ++ other ++ codes "\n"
+
+unfoldable pub apart_text : ℕ → List ℕ
+apart_text gap = codes "every " ++ decimal gap ++ codes " ms"
+
+unfoldable pub heads_text : ℕ → List ℕ
+heads_text gap = row_text (codes "they come") (codes "at once") (apart_text gap) (codes "so, by whole seconds")
+
+unfoldable pub measure_row : Measure → Advice → Advice → Advice → List ℕ
+measure_row measure once ours theirs =
+    row_text (title_of measure) (measure_text measure once) (measure_text measure ours) (measure_text measure theirs)
+
+unfoldable pub rows_text : ℕ → Advice → Advice → Advice → List ℕ
+rows_text gap once ours theirs =
+    heads_text gap ++ measure_row Survived once ours theirs ++ measure_row LeastIntensity once ours theirs
+    ++ measure_row GreatestPeriod once ours theirs
 
 abbrev pub is_nowhere : Edge → Bool
 is_nowhere edge.Any = false
@@ -123,56 +137,58 @@ no_period_text false flags = []
 no_period_text true flags =
     codes "no period is short enough: within 1 s there are more restarts than " ++ decimal flags.intensity ++ codes "\n"
 
+-- what is enough wherever so many crashes lie in their time: what survives them all at once
+unfoldable pub enough_text : Edge → List ℕ
+enough_text edge.Any = []
+enough_text (edge.At value) = codes "intensity " ++ decimal value ++ codes " is enough, whenever they come\n"
+enough_text edge.Nowhere = codes "no intensity is enough where they come at once\n"
+
+-- why no period is, where they may come at once
+unfoldable pub no_period_at_once_text : Bool → SupFlags → List ℕ
+no_period_at_once_text false flags = []
+no_period_at_once_text true flags = codes "no period is short enough: at once there are more restarts than " ++ decimal flags.intensity ++ codes "\n"
+
+-- why nothing is enough at an interval
+unfoldable pub apart_why_text : SupFlags → Suggestion → List ℕ
+apart_why_text flags said =
+    no_intensity_text (is_nowhere said.ours.intensity || is_nowhere said.theirs.intensity) flags
+    ++ no_period_text (is_nowhere said.ours.period || is_nowhere said.theirs.period) flags
+
+-- what is enough of so many, and why nothing is
+unfoldable pub worst_why_text : SupFlags → Advice → List ℕ
+worst_why_text flags worst = enough_text worst.intensity ++ no_period_at_once_text (is_nowhere worst.period) flags
+
+unfoldable pub rates_why_text : SupFlags → Suggestion → Option Advice → List ℕ
+rates_why_text flags said None = apart_why_text flags said
+rates_why_text flags said (Some worst) = worst_why_text flags worst
+
 -- why nothing survives, or everything
 unfoldable pub why_text : List ℕ → List ℕ → SupFlags → Suggestion → Fate → List ℕ
 why_text name above flags said (fate.Ended _) =
     clip 30 name ++ codes " is significant: its first crash ends " ++ clip 30 above ++ codes "\nwhatever intensity and period are\n"
 why_text name above flags said (fate.Gone _) =
     clip 30 name ++ codes " isn't started again: each intensity and period will do\n"
-why_text name above flags said fate.Survived =
-    no_intensity_text (is_nowhere said.ours.intensity || is_nowhere said.theirs.intensity) flags
-    ++ no_period_text (is_nowhere said.ours.period || is_nowhere said.theirs.period) flags
+why_text name above flags said fate.Survived = rates_why_text flags said said.worst
 
--- the whole, of a child with this name, whose supervisor's children have this path
-unfoldable pub advice_text : List ℕ → List ℕ → ℕ → SupFlags → Suggestion → List ℕ
-advice_text name path gap flags said =
-    question_text name (supervisor_path path) gap flags
-    ++ table_text said.ours said.theirs
-    ++ why_text name (supervisor_path path) flags said said.twice
+-- the table of what is asked
+unfoldable pub answers_text : Question → Suggestion → Option Advice → List ℕ
+answers_text question said None = table_text said.ours said.theirs
+answers_text question said (Some worst) = rows_text (apart_of question) worst said.ours said.theirs
 
--- what is said of a child of the supervisor at this place: of a worker what would survive its crashes; a supervisor is refused
-abbrev pub TellsKind : ChildType → List ℕ → ℕ → List Seated → ℕ → Name → Answer → List ℕ → List ℕ → Type 0
-TellsKind Supervisor name gap seats place id answer before after = (answer ≡ reply.IsSupervisor) × (after ≡ before)
-TellsKind Worker name gap seats place id answer before after =
-    (answer ≡ reply.Told)
-    × ((seat : Seated) × (said : Suggestion)
-    × (seat ≡ slice_index_or seats place seat)
-    × IsSuggestion seat.base.flags seat.base.specs id gap said
-    × (after ≡ before ++ advice_text name seat.path gap seat.base.flags said))
+-- the whole, of a child with this name
+unfoldable pub advice_text : List ℕ → Question → Subject → List ℕ
+advice_text name question subject =
+    question_text name (supervisor_path subject.path) question subject.flags
+    ++ answers_text question subject.said subject.said.worst
+    ++ why_text name (supervisor_path subject.path) subject.flags subject.said subject.said.twice
 
--- the same of the child that was found, or that there is none
-abbrev pub TellsFound : List ℕ → ℕ → List Seated → Option (ℕ × ChildSpec) → Answer → List ℕ → List ℕ → Type 0
-TellsFound name gap seats None answer before after = (answer ≡ reply.NoChild) × (after ≡ before)
-TellsFound name gap seats (Some found) answer before after =
-    TellsKind found.1.kind name gap seats found.0 found.1.id answer before after
+-- what is told of what was found
+abbrev pub Tells : List ℕ → Question → Finding → SuggestionAnswer → List ℕ → List ℕ → Type 0
+Tells name question (finding.Of subject) answer before after = (answer ≡ reply.Told) × (after ≡ before ++ advice_text name question subject)
+Tells name question finding.NoChild answer before after = (answer ≡ reply.NoChild) × (after ≡ before)
+Tells name question finding.IsSupervisor answer before after = (answer ≡ reply.IsSupervisor) × (after ≡ before)
 
--- the child of a tree with this name crashes at this interval: what would survive it was told, or it was refused
-pub record Suggests (tree : Tree) (name : List ℕ) (gap : ℕ) (answer : Answer) (before after : List ℕ) : Type 0 where
-  pub seats : List Seated
-  pub planted : IsPlanted true tree seats
-  pub tells : TellsFound name gap seats (child_from 0 name seats) answer before after
-
--- crashes of the child with this id, of the supervisor at this place, can't be played to their end
-abbrev pub IsUnadvisedAt : List Seated → ℕ → Name → Type 0
-IsUnadvisedAt seats place id = (seat : Seated) × ((seat ≡ slice_index_or seats place seat) × IsUnadvised seat.base.flags seat.base.specs id)
-
--- the same of the child that was found, if one was; no run is made of a supervisor's own crashes
-abbrev pub IsUnadvisedIn : List Seated → Option (ℕ × ChildSpec) → Type 0
-IsUnadvisedIn seats None = ⊥
-IsUnadvisedIn seats (Some found) = (found.1.kind ≡ Worker) × IsUnadvisedAt seats found.0 found.1.id
-
--- nothing can be suggested to the child of a tree with this name
-pub record IsUnsuggested (tree : Tree) (name : List ℕ) : Type 0 where
-  pub seats : List Seated
-  pub planted : IsPlanted true tree seats
-  pub unadvised : IsUnadvisedIn seats (child_from 0 name seats)
+-- the child of a tree with this name crashes so: what would survive it was told, or it was refused
+abbrev pub Suggests : Tree → List ℕ → Question → SuggestionAnswer → List ℕ → List ℕ → Type 0
+Suggests tree name question answer before after =
+    (found : Finding) × (Finds tree name question found × Tells name question found answer before after)

@@ -1,14 +1,16 @@
 //! The least intensity, or the greatest period, with which a supervisor survives crashes of a child.
 
 ghost use Rattle.std.specs.Prelude.{◌≡◌, ◌≤◌, ◌<◌, ◌^◌, ◌-◌, IfErr, IfOk};
-ghost use Rattle.otp_limits.specs.declared.steady.Verdict.TheVariants.{Falls, Lasts};
+ghost use Rattle.otp_costs.specs.declared.limits.steady.Verdict.TheVariants.{Falls, Lasts};
 ghost use Rattle.otp_spec.specs.declared.limits.TheConstants.{MAX_PERIOD};
 ghost use Rattle.otp_trial.specs.declared.trial.Halt.TheVariants.{HistoryFull, OutOfMemory};
+ghost use Rattle.otp_suggest.specs.Courses.{IsCourse};
 ghost use Rattle.otp_suggest.specs.Edges.{AreBounds, IsEdge, IsEdgeless, IsJudgedAt, last_step, turned, value_at};
-ghost use Rattle.otp_limits.specs.Costs.{IsUnknown};
+ghost use Rattle.otp_costs.specs.Costs.{IsUnknown};
 
+use crate::course::{Course, judge_course};
 use crate::dial::Dial;
-use otp_limits::{Verdict, judge};
+use otp_costs::limits::Verdict;
 use otp_reason::Name;
 use otp_spec::{SupSpec, copy_specs};
 use otp_trial::{Clock, Halt};
@@ -51,23 +53,23 @@ pub(crate) fn with_value(
     }
 }
 
-/// Plays crashes of a child at an interval, where a flag of its supervisor has the value of this step.
+/// Plays crashes of a child that come so, where a flag of its supervisor has the value of this step.
 fn judge_at(
     alloc: Global,
     supervisor: &SupSpec,
     clock: Clock,
     id: &Name,
-    gap: u64,
+    course: Course,
     dial: Dial,
     step: u64,
 ) -> Result<Verdict, Halt>
-    requires gap { gap ≤ 2 ^ 30 }
+    requires course { IsCourse course }
     requires step { step ≤ MAX_PERIOD }
-    ensures ok { IfOk result (IsJudgedAt dial clock supervisor.now.flags supervisor.now.specs id.now gap step) }
+    ensures ok { IfOk result (IsJudgedAt dial clock supervisor.now.flags supervisor.now.specs id.now course step) }
     ensures full { IfErr result (λ halt. halt ≡ HistoryFull → IsUnknown (turned dial (value_at dial step) supervisor.now.flags) supervisor.now.specs id.now) }
 {
     let other = with_value(alloc, supervisor, dial, dial.value_at(step))?;
-    let verdict = judge(alloc, &other, clock, id, gap);
+    let verdict = judge_course(alloc, &other, clock, id, course);
     drop(other);
     verdict
 }
@@ -78,19 +80,19 @@ fn narrow(
     supervisor: &SupSpec,
     clock: Clock,
     id: &Name,
-    gap: u64,
+    course: Course,
     dial: Dial,
     bounds: Bounds,
     step: u64,
 ) -> Result<Bounds, Halt>
-    requires gap { gap ≤ 2 ^ 30 }
-    requires bounds { AreBounds dial clock supervisor.now.flags supervisor.now.specs id.now gap bounds }
+    requires course { IsCourse course }
+    requires bounds { AreBounds dial clock supervisor.now.flags supervisor.now.specs id.now course bounds }
     requires inside { (bounds.short < step) × (step < bounds.long) }
-    ensures bounds { IfOk result (AreBounds dial clock supervisor.now.flags supervisor.now.specs id.now gap) }
+    ensures bounds { IfOk result (AreBounds dial clock supervisor.now.flags supervisor.now.specs id.now course) }
     ensures narrower { IfOk result (λ after. after.long - after.short < bounds.long - bounds.short) }
     ensures full { IfErr result (λ halt. halt ≡ HistoryFull → IsEdgeless dial supervisor.now.flags supervisor.now.specs id.now) }
 {
-    match judge_at(alloc, supervisor, clock, id, gap, dial, step)? {
+    match judge_at(alloc, supervisor, clock, id, course, dial, step)? {
         Verdict::Lasts => Ok(Bounds {
             short: bounds.short,
             long: step,
@@ -109,13 +111,13 @@ fn search(
     supervisor: &SupSpec,
     clock: Clock,
     id: &Name,
-    gap: u64,
+    course: Course,
     dial: Dial,
 ) -> Result<Edge, Halt>
-    requires gap { gap ≤ 2 ^ 30 }
-    requires falls { IsJudgedAt dial clock supervisor.now.flags supervisor.now.specs id.now gap 0 Falls }
-    requires lasts { IsJudgedAt dial clock supervisor.now.flags supervisor.now.specs id.now gap (last_step dial) Lasts }
-    ensures ok { IfOk result (IsEdge dial clock supervisor.now.flags supervisor.now.specs id.now gap) }
+    requires course { IsCourse course }
+    requires falls { IsJudgedAt dial clock supervisor.now.flags supervisor.now.specs id.now course 0 Falls }
+    requires lasts { IsJudgedAt dial clock supervisor.now.flags supervisor.now.specs id.now course (last_step dial) Lasts }
+    ensures ok { IfOk result (IsEdge dial clock supervisor.now.flags supervisor.now.specs id.now course) }
     ensures full { IfErr result (λ halt. halt ≡ HistoryFull → IsEdgeless dial supervisor.now.flags supervisor.now.specs id.now) }
 {
     let mut bounds = Bounds {
@@ -124,12 +126,12 @@ fn search(
     };
     'halving: while bounds.long - bounds.short > 1 {
         let middle = bounds.short + (bounds.long - bounds.short) / 2;
-        bounds = narrow(alloc, supervisor, clock, id, gap, dial, bounds, middle)?;
+        bounds = narrow(alloc, supervisor, clock, id, course, dial, bounds, middle)?;
     }
     Ok(Edge::At(dial.value_at(bounds.long)))
 }
 
-/// The last value of a flag with which a supervisor survives crashes of a child that are so many milliseconds apart.
+/// The last value of a flag with which a supervisor survives crashes of a child that come so.
 ///
 /// # Errors
 ///
@@ -140,19 +142,19 @@ pub fn find_edge(
     supervisor: &SupSpec,
     clock: Clock,
     id: &Name,
-    gap: u64,
+    course: Course,
     dial: Dial,
 ) -> Result<Edge, Halt>
-    requires gap { gap ≤ 2 ^ 30 }
-    ensures ok { IfOk result (IsEdge dial clock supervisor.now.flags supervisor.now.specs id.now gap) }
+    requires course { IsCourse course }
+    ensures ok { IfOk result (IsEdge dial clock supervisor.now.flags supervisor.now.specs id.now course) }
     ensures full { IfErr result (λ halt. halt ≡ HistoryFull → IsEdgeless dial supervisor.now.flags supervisor.now.specs id.now) }
 {
-    match judge_at(alloc, supervisor, clock, id, gap, dial, 0)? {
+    match judge_at(alloc, supervisor, clock, id, course, dial, 0)? {
         Verdict::Lasts => return Ok(Edge::Any),
         Verdict::Falls => {}
     }
-    match judge_at(alloc, supervisor, clock, id, gap, dial, dial.last_step())? {
+    match judge_at(alloc, supervisor, clock, id, course, dial, dial.last_step())? {
         Verdict::Falls => Ok(Edge::Nowhere),
-        Verdict::Lasts => search(alloc, supervisor, clock, id, gap, dial),
+        Verdict::Lasts => search(alloc, supervisor, clock, id, course, dial),
     }
 }

@@ -5,18 +5,17 @@ ghost use Rattle.std.specs.Str.{bytes_eq};
 ghost use Rattle.otp_costs.specs.Groups.{below};
 ghost use Rattle.otp_suggest.specs.Found.{child_from, child_in};
 
+use otp_costs::put_below;
 use otp_reason::Name;
 use otp_spec::{ChildSpec, MAX_TABLES};
-use otp_trial::Seat;
+use otp_trial::TriedSupervisor;
 use std::alloc::{AllocError, Global};
 
 /// Whether the child with this id, of a supervisor with this path, has this name.
 fn is_named(path: &[u8], id: &Name, name: &[u8], word: &mut Vec<u8>) -> Result<bool, AllocError>
     ensures { IfOk result (λ is. is ≡ bytes_eq (below path.now id.now) name.now) }
 {
-    word.clear();
-    word.extend_from_slice(path)?;
-    word.extend_from_slice(id.as_bytes())?;
+    put_below(path, id, word)?;
     Ok(word.as_slice() == name)
 }
 
@@ -42,7 +41,7 @@ fn child_in(
 fn find_from(
     place: usize,
     name: &[u8],
-    seats: &[Seat],
+    seats: &[TriedSupervisor],
     word: &mut Vec<u8>,
 ) -> Result<Option<(usize, ChildSpec)>, AllocError>
     requires { place + length seats.now ≤ 2 ^ 62 }
@@ -64,7 +63,7 @@ fn find_from(
 pub(crate) fn find_child(
     alloc: Global,
     name: &[u8],
-    seats: &[Seat],
+    seats: &[TriedSupervisor],
 ) -> Result<Option<(usize, ChildSpec)>, AllocError>
     ensures child { IfOk result (λ found. found ≡ child_from 0 name.now seats.now) }
     ensures inside { IfOk result (λ found. IfSome found (λ at. at.0 < length seats.now)) }

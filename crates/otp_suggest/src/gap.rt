@@ -1,22 +1,24 @@
-//! How far apart crashes are, as a word says it.
+//! How far apart crashes are, or within which time they come, as a word says it.
 
 ghost use Rattle.std.specs.Prelude.{◌≡◌, ◌≤◌, ◌<◌, ◌^◌, IfOk};
 ghost use Rattle.otp_suggest.specs.Gaps.{gap_if, gap_in, gap_of};
 
 use crate::time::read_time;
 
-/// The longest interval in milliseconds: some twelve days.
+/// The longest time in milliseconds: some twelve days.
 pub const LONGEST_GAP: u64 = 1_073_741_824;
 
-/// Why a word says no interval.
+/// Why a word says no time, or no number of crashes.
 #[derive(Clone, Copy, Debug, PartialEq, Eq)]
 pub enum GapFault {
     /// It is no number of milliseconds, seconds, minutes or hours.
     NoTime,
-    /// There would be no time between crashes.
+    /// It is no time at all.
     Zero,
     /// It is longer than [`LONGEST_GAP`].
     TooLong,
+    /// It is no number of crashes from 1 to [`crate::MOST_TIMES`].
+    NoCount,
 }
 
 /// So many milliseconds as an interval.

@@ -8,7 +8,7 @@ use std::alloc::AllocError;
 
 /// Whether a suggestion was told.
 #[derive(Clone, Copy, Debug, PartialEq, Eq)]
-pub enum Answer {
+pub enum SuggestionAnswer {
     /// It was.
     Told,
     /// No child of the tree has the name.
@@ -18,15 +18,16 @@ pub enum Answer {
 }
 
 impl GapFault {
-    /// What is said of a word that says no interval, behind the word.
+    /// What is said of such a word, behind it.
     #[tactic(auto, unfolding(crate::specs::Refused::fault_text))]
     pub fn text(self) -> &'static str
         ensures { result.now ≡ fault_text self }
     {
         match self {
             GapFault::NoTime => "is no time: write 500ms, 2s, 5m or 1h",
-            GapFault::Zero => "is no time between crashes: write 1ms or more",
+            GapFault::Zero => "is no time at all: write 1ms or more",
             GapFault::TooLong => "is too long: at most 1073741824 ms, some 12 days",
+            GapFault::NoCount => "is no number of crashes from 1 to 1000",
         }
     }
 }
@@ -67,16 +68,16 @@ fn write_is_supervisor(name: &[u8], out: &mut Vec<u8>) -> Result<(), AllocError>
     out.extend_from_slice(b"/worker\n")
 }
 
-impl Answer {
+impl SuggestionAnswer {
     /// Appends why nothing was told of the child with this name: a line, or nothing where it was told.
     #[tactic(auto, unfolding(crate::specs::Refused::refusal_text))]
     pub fn write(self, name: &[u8], out: &mut Vec<u8>) -> Result<(), AllocError>
         ensures { OnOk result (out.new.items ≡ out.old.items ++ refusal_text name.now self) }
     {
         match self {
-            Answer::Told => Ok(()),
-            Answer::NoChild => write_no_child(name, out),
-            Answer::IsSupervisor => write_is_supervisor(name, out),
+            SuggestionAnswer::Told => Ok(()),
+            SuggestionAnswer::NoChild => write_no_child(name, out),
+            SuggestionAnswer::IsSupervisor => write_is_supervisor(name, out),
         }
     }
 }

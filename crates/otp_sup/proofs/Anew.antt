@@ -3,11 +3,11 @@ use Rattle.std.proofs.Common.{◌≡◌, ℕ, ◌≤◌, List, [], ◌++◌, Non
 use Rattle.otp_bodies.specs.Bodies.{are_ready, count_given, count_opened, settled}
 use Rattle.otp_bodies.specs.declared.bodies.Kept.{Kept}
 use Rattle.otp_core.specs.View.{new_core, state_of, stored_of}
-use Rattle.otp_counts.specs.Counts.{Publishing, after_publish}
-use Rattle.otp_office.proofs.Shared.{none_sent}
-use Rattle.otp_office.proofs.Telling.{none_told, told_same}
-use Rattle.otp_office.specs.Events.{items_of}
-use Rattle.otp_office.specs.Offices.{KeepsOffice, OfficeView}
+use Rattle.otp_signals.specs.Counts.{Publishing, after_publish}
+use Rattle.otp_bodies.proofs.Shared.{none_sent}
+use Rattle.otp_bodies.proofs.Telling.{none_told, told_same}
+use Rattle.otp_bodies.specs.Events.{items_of}
+use Rattle.otp_bodies.specs.Offices.{KeepsOffice, OfficeView}
 use Rattle.otp_rules.specs.Counts.{counts_of}
 use Rattle.otp_rules.specs.State.{State}
 use Rattle.otp_rules.specs.declared.call.CountsNow.{CountsNow}

@@ -20,15 +20,15 @@ use Rattle.otp_rules.specs.Waits.{StartsWait, start_in, start_waiting, starts_le
 use Rattle.otp_core.specs.View.{state_of}
 use Rattle.otp_bodies.specs.declared.port.Flushed.{Flushed}
 use Rattle.otp_bodies.specs.declared.port.Flushed.TheVariants as flushed
-use Rattle.otp_office.specs.Offices.{Begins, OfficeView}
-use Rattle.otp_office.specs.Events.{Happened, Readied, is_any_waiting}
+use Rattle.otp_bodies.specs.Offices.{Begins, OfficeView}
+use Rattle.otp_bodies.specs.Events.{Happened, Readied, is_any_waiting}
 use Rattle.otp_table.specs.declared.row.Row.{Row}
 use Rattle.otp_table.specs.Rows.{has_slot}
 use Rattle.otp_bodies.specs.declared.bodies.Kept.{Kept}
 use Rattle.otp_bodies.specs.declared.bodies.Origin.{Origin}
 use Rattle.otp_bodies.specs.declared.bodies.Origin.TheVariants as origin
-use Rattle.otp_bodies.specs.declared.bodies.Place.{Place}
-use Rattle.otp_bodies.specs.declared.bodies.Place.TheVariants as placed
+use Rattle.otp_bodies.specs.declared.bodies.BodyPlace.{BodyPlace}
+use Rattle.otp_bodies.specs.declared.bodies.BodyPlace.TheVariants as placed
 use Rattle.otp_bodies.specs.Letters.{is_end_note}
 use Rattle.otp_sup.specs.Moves.{bodies_after, home_of, is_start_item, is_start_waiting, is_waited_for, let_go, moved, received, slot_given}
 use Rattle.otp_bodies.specs.Bodies.{bodies_sent, calls_waiting, came_for, home_or_free, is_at_home, is_away, is_away_from, is_free_place, is_home_of, is_waiting, left_home, move_first, opened, opened_place, place_among, place_of_call, place_without_line, settled, stray, taken_up, waiting_as, waiting_call, without_first}
@@ -39,7 +39,7 @@ put_calls kept b none =
     filter_map-append waiting_call kept (b ∷ []) ∙ ap (λ (c : Option ℕ). calls_waiting kept ++ cons_option c []) none ∙ append-nil (calls_waiting kept)
 
 -- a body moves, that waits with no call before or after
-moved_calls : (test : Kept → Bool) (to : Place) (kept : List Kept) → ((b : Kept) → test b ≡ true → waiting_call (record b { place = to }) ≡ waiting_call b) → calls_waiting (move_first test to kept) ≡ calls_waiting kept
+moved_calls : (test : Kept → Bool) (to : BodyPlace) (kept : List Kept) → ((b : Kept) → test b ≡ true → waiting_call (record b { place = to }) ≡ waiting_call b) → calls_waiting (move_first test to kept) ≡ calls_waiting kept
 moved_calls test to [] same = refl
 moved_calls test to (b ∷ bs) same =
     cond_both (test b) (record b { place = to } ∷ bs) (b ∷ move_first test to bs) (λ (l : List Kept). calls_waiting l ≡ calls_waiting (b ∷ bs))
@@ -49,7 +49,7 @@ moved_calls test to (b ∷ bs) same =
 home_calls : (slot : ℕ) (b : Kept) → is_away slot b ≡ true → waiting_call (record b { place = placed.Home slot }) ≡ waiting_call b
 home_calls slot b away = of b.origin b.place away
   where
-    of : (o : Origin) (at : Place) → is_away_from slot at ≡ true → waiting_as o (placed.Home slot) ≡ waiting_as o at
+    of : (o : Origin) (at : BodyPlace) → is_away_from slot at ≡ true → waiting_as o (placed.Home slot) ≡ waiting_as o at
     of (origin.Spec k) at h = refl
     of origin.Nobody at h = refl
     of (origin.Call c) (placed.Home k) h = refl
@@ -143,11 +143,11 @@ moved_left s rows kind.Ticked kept same = same
 moved_left s rows kind.Stopped kept same = same
 
 -- the bodies are settled: those that wait go on, or wait no more
-settled_one : (rows : List Row) (any : Bool) (o : Origin) (at : Place) → waiting_as o (place_among rows any at) ≡ (if any then waiting_as o at else None)
+settled_one : (rows : List Row) (any : Bool) (o : Origin) (at : BodyPlace) → waiting_as o (place_among rows any at) ≡ (if any then waiting_as o at else None)
 settled_one rows any (origin.Spec k) at = cond_both any (waiting_as (origin.Spec k) at) None (λ (x : Option ℕ). None ≡ x) (λ _. refl) (λ _. refl)
 settled_one rows any origin.Nobody at = cond_both any (waiting_as origin.Nobody at) None (λ (x : Option ℕ). None ≡ x) (λ _. refl) (λ _. refl)
 settled_one rows any (origin.Call c) (placed.Home k) =
-    cond_both (list_any (has_slot k) rows) (placed.Home k) placed.Free (λ (p : Place). waiting_as (origin.Call c) p ≡ None) (λ _. refl) (λ _. refl)
+    cond_both (list_any (has_slot k) rows) (placed.Home k) placed.Free (λ (p : BodyPlace). waiting_as (origin.Call c) p ≡ None) (λ _. refl) (λ _. refl)
     ∙ cond_both any None None (λ (x : Option ℕ). None ≡ x) (λ _. refl) (λ _. refl)
 settled_one rows true (origin.Call c) placed.Waiting = refl
 settled_one rows false (origin.Call c) placed.Waiting = refl
@@ -160,7 +160,7 @@ settled_calls rows false [] = refl
 settled_calls rows true (b ∷ bs) = ap (λ (x : Option ℕ). cons_option x (calls_waiting (settled rows true bs))) (settled_one rows true b.origin b.place) ∙ ap (λ (l : List ℕ). cons_option (waiting_call b) l) (settled_calls rows true bs)
 settled_calls rows false (b ∷ bs) = ap (λ (x : Option ℕ). cons_option x (calls_waiting (settled rows false bs))) (settled_one rows false b.origin b.place) ∙ settled_calls rows false bs
 
-opened_one : (n : List Row) (o : Origin) (at : Place) → waiting_as o (opened_place n o at) ≡ waiting_as o at
+opened_one : (n : List Row) (o : Origin) (at : BodyPlace) → waiting_as o (opened_place n o at) ≡ waiting_as o at
 opened_one n (origin.Spec k) at = refl
 opened_one n (origin.Call c) at = refl
 opened_one n origin.Nobody at = refl
@@ -223,7 +223,7 @@ without_calls test (b ∷ bs) free =
     (λ t. sym (ap (λ (c : Option ℕ). cons_option c (calls_waiting bs)) (free_waits b.origin b.place (free b t))))
     (λ _. ap (λ (cs : List ℕ). cons_option (waiting_call b) cs) (without_calls test bs free))
   where
-    free_waits : (o : Origin) (at : Place) → is_free_place at ≡ true → waiting_as o at ≡ None
+    free_waits : (o : Origin) (at : BodyPlace) → is_free_place at ≡ true → waiting_as o at ≡ None
     free_waits (origin.Spec k) at h = refl
     free_waits origin.Nobody at h = refl
     free_waits (origin.Call c) (placed.Home k) h = refl
@@ -232,7 +232,7 @@ without_calls test (b ∷ bs) free =
     free_waits (origin.Call c) (placed.Away k) h = refl
 
 -- a body that leaves home waited with no call
-left_one : (slot : ℕ) (o : Origin) (at : Place) → is_home_of slot at ≡ true → waiting_as o (placed.Away slot) ≡ waiting_as o at
+left_one : (slot : ℕ) (o : Origin) (at : BodyPlace) → is_home_of slot at ≡ true → waiting_as o (placed.Away slot) ≡ waiting_as o at
 left_one slot (origin.Spec k) at h = refl
 left_one slot origin.Nobody at h = refl
 left_one slot (origin.Call c) (placed.Home k) h = refl

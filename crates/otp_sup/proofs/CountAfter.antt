@@ -13,7 +13,7 @@ use Rattle.otp_bodies.specs.declared.bodies.Origin.TheVariants as origin
 use Rattle.otp_bodies.specs.Letters.{is_end_note, one_if}
 use Rattle.otp_sup.specs.Moves.{bodies_after, brings_body, home_of, is_taken_up, is_waited_for, let_go, moved, slot_given}
 use Rattle.otp_bodies.specs.Bodies.{bodies_in, came_for, place_of_call, settled}
-use Rattle.otp_office.specs.Events.{is_any_waiting}
+use Rattle.otp_bodies.specs.Events.{is_any_waiting}
 use Rattle.otp_bodies.proofs.CountBodies.{call_here, came_count, opened_count, put_count, settled_count, taken_count}
 use Rattle.otp_bodies.specs.declared.bodies.Origin.TheVariants as origin
 

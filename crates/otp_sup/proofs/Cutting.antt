@@ -10,22 +10,22 @@ use Rattle.otp_rules.specs.declared.event.Kind.TheVariants as kind
 use Rattle.otp_rules.specs.State.{is_over, own_number}
 use Rattle.otp_signals.specs.declared.signal.Signal.{Signal}
 use Rattle.otp_sup.specs.Cuts.{CutWhereFull, IsCut, WasCut, cut_table}
-use Rattle.otp_office.specs.Cuts.{HasTooManyEvents, cut_office}
+use Rattle.otp_bodies.specs.Cuts.{HasTooManyEvents, cut_office}
 use Rattle.otp_sup.specs.declared.cut.CutAnswer.{CutAnswer}
 use Rattle.otp_sup.specs.declared.cut.CutAnswer.TheVariants as cut
-use Rattle.otp_office.specs.declared.turns.TurnAnswer.{TurnAnswer}
-use Rattle.otp_office.specs.declared.turns.TurnAnswer.TheVariants as answer
-use Rattle.otp_office.specs.declared.turns.TurnFault.{TurnFault}
-use Rattle.otp_office.specs.declared.turns.TurnFault.TheVariants as fault
-use Rattle.otp_office.specs.Offices.{OfficeView}
+use Rattle.otp_bodies.specs.declared.office.turns.TurnAnswer.{TurnAnswer}
+use Rattle.otp_bodies.specs.declared.office.turns.TurnAnswer.TheVariants as answer
+use Rattle.otp_bodies.specs.declared.office.turns.TurnFault.{TurnFault}
+use Rattle.otp_bodies.specs.declared.office.turns.TurnFault.TheVariants as fault
+use Rattle.otp_bodies.specs.Offices.{OfficeView}
 use Rattle.otp_sup.specs.Facts.{TableView}
-use Rattle.otp_office.specs.Orders.{has_some}
-use Rattle.otp_office.specs.Flushes.{SentOrders}
+use Rattle.otp_bodies.specs.Orders.{has_some}
+use Rattle.otp_bodies.specs.Flushes.{SentOrders}
 use Rattle.otp_bodies.specs.Ports.{Taken}
 use Rattle.otp_core.specs.Full.{is_full}
 use Rattle.otp_sup.specs.Turns.{Did, TookOrEmpty, Turned}
-use Rattle.otp_office.specs.Answers.{answer_of, early_answer}
-use Rattle.otp_office.specs.Events.{due_kind}
+use Rattle.otp_bodies.specs.Answers.{answer_of, early_answer}
+use Rattle.otp_bodies.specs.Events.{due_kind}
 
 is_full_answer : Option (Result TurnAnswer TurnFault) → Bool
 is_full_answer (Some (Ok answer.Full)) = true

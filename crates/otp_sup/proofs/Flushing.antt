@@ -17,18 +17,18 @@ use Rattle.otp_core.specs.View.{View, state_of}
 use Rattle.otp_bodies.specs.declared.bodies.Kept.{Kept}
 use Rattle.otp_bodies.specs.declared.bodies.Origin.{Origin}
 use Rattle.otp_bodies.specs.declared.bodies.Origin.TheVariants as origin
-use Rattle.otp_bodies.specs.declared.bodies.Place.{Place}
-use Rattle.otp_bodies.specs.declared.bodies.Place.TheVariants as placed
+use Rattle.otp_bodies.specs.declared.bodies.BodyPlace.{BodyPlace}
+use Rattle.otp_bodies.specs.declared.bodies.BodyPlace.TheVariants as placed
 use Rattle.otp_bodies.specs.declared.port.Flushed.{Flushed}
 use Rattle.otp_bodies.specs.declared.port.Flushed.TheVariants as flushed
 use Rattle.otp_bodies.specs.Bodies.{are_given, are_ready, bodies_sent, count_away, count_given, count_home, has_body, is_at_home, is_away, is_away_from, is_call, is_free_place, is_home_of, is_left_of, is_nobody, is_out, is_spec, is_stray, left_home, move_first, settled, without_first, count_opened}
-use Rattle.otp_office.specs.Orders.{slot_started, started_by, starting_slot, orders_in, starts_in}
-use Rattle.otp_office.specs.Offices.{AreApart, KeepsOffice, OfficeView, sent_of}
+use Rattle.otp_bodies.specs.Orders.{slot_started, started_by, starting_slot, orders_in, starts_in}
+use Rattle.otp_bodies.specs.Offices.{AreApart, KeepsOffice, OfficeView, sent_of}
 use Rattle.otp_sup.specs.Facts.{HasBodies, IsOut, IsRunning, KeepsBodies, is_unsent}
-use Rattle.otp_office.specs.Flushes.{Flushes}
+use Rattle.otp_bodies.specs.Flushes.{Flushes}
 use Rattle.otp_bodies.specs.Ports.{Taken}
-use Rattle.otp_office.specs.Rows.{slot_of}
-use Rattle.otp_office.specs.Events.{Readied}
+use Rattle.otp_bodies.specs.Rows.{slot_of}
+use Rattle.otp_bodies.specs.Events.{Readied}
 use Rattle.otp_sup.proofs.Calls.{readied_state}
 use Rattle.otp_sup.proofs.Found.{contains_counts, in_list, same_slot}
 use Rattle.otp_sup.proofs.Homes.{or_none}
@@ -37,7 +37,7 @@ use Rattle.otp_bodies.proofs.Once.{any_unleft, any_unmoved, both_when_left, both
 use Rattle.otp_bodies.proofs.Owned.{first_own, left_own, without_own}
 use Rattle.otp_rules.proofs.Counting.{found}
 use Rattle.std.proofs.lemmas.List.Quantifiers.{position-Some}
-use Rattle.otp_office.proofs.Slots.{slot_read}
+use Rattle.otp_bodies.proofs.Slotted.{slot_read}
 
 -- the slot of a process is that of the child that has it
 pub slot_of_row : (rows : List Row) (p : ℕ) (row : Row) → AreApart rows → Contains rows row → has_process p row.state ≡ true → slot_of rows p ≡ row.slot
@@ -162,7 +162,7 @@ none_out slot (b ∷ bs) h =
     let parts : (is_out b ≡ false) × (list_any is_out bs ≡ false) = or_none_of (is_out b) (list_any is_out bs) h in
     ap (λ (x : Bool). x || list_any (is_away slot) bs) (near b.place parts.0) ∙ none_out slot bs parts.1
   where
-    near : (at : Place) → not (Rattle.otp_bodies.specs.Bodies.is_here at) ≡ false → is_away_from slot at ≡ false
+    near : (at : BodyPlace) → not (Rattle.otp_bodies.specs.Bodies.is_here at) ≡ false → is_away_from slot at ≡ false
     near (placed.Home k) e = refl
     near placed.Waiting e = refl
     near placed.Free e = refl
@@ -231,13 +231,13 @@ without_bodies t s starts kept free other k =
       own = without_own t kept k.own;
     }
   where
-    free_home : (slot : ℕ) (at : Place) → is_free_place at ≡ true → is_home_of slot at ≡ false
+    free_home : (slot : ℕ) (at : BodyPlace) → is_free_place at ≡ true → is_home_of slot at ≡ false
     free_home slot (placed.Home j) f = absurd (false≢true f)
     free_home slot placed.Waiting f = refl
     free_home slot placed.Free f = refl
     free_home slot (placed.Away j) f = refl
 
-    free_near : (slot : ℕ) (at : Place) → is_free_place at ≡ true → is_away_from slot at ≡ false
+    free_near : (slot : ℕ) (at : BodyPlace) → is_free_place at ≡ true → is_away_from slot at ≡ false
     free_near slot (placed.Home j) f = refl
     free_near slot placed.Waiting f = refl
     free_near slot placed.Free f = refl

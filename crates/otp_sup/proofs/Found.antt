@@ -15,7 +15,7 @@ use Rattle.otp_rules.specs.Fit.{is_starting}
 use Rattle.otp_rules.specs.Slots.{AreSlotted}
 use Rattle.otp_rules.proofs.Counting.{found}
 use Rattle.otp_bodies.specs.Letters.{number_of}
-use Rattle.otp_office.specs.Offices.{AreApart}
+use Rattle.otp_bodies.specs.Offices.{AreApart}
 use Rattle.otp_sup.specs.Moves.{is_heeded, slot_heeding}
 
 -- as many rows as there are of a slot: one at most, so two are one

@@ -40,14 +40,14 @@ use Rattle.otp_rules.proofs.States.{one_process}
 use Rattle.otp_core.specs.View.{state_of}
 use Rattle.otp_bodies.specs.declared.bodies.Kept.{Kept}
 use Rattle.otp_bodies.specs.declared.bodies.Origin.TheVariants as origin
-use Rattle.otp_bodies.specs.declared.bodies.Place.{Place}
-use Rattle.otp_bodies.specs.declared.bodies.Place.TheVariants as placed
+use Rattle.otp_bodies.specs.declared.bodies.BodyPlace.{BodyPlace}
+use Rattle.otp_bodies.specs.declared.bodies.BodyPlace.TheVariants as placed
 use Rattle.otp_bodies.specs.Letters.{is_end_note}
 use Rattle.otp_bodies.specs.Bodies.{are_given, calls_waiting, came_for, come_home, count_away, count_home, has_body, home_or_free, is_at_home, is_waiting, move_first, place_of_call, settled, stray, taken_up, count_opened}
 use Rattle.otp_sup.specs.Moves.{bodies_after, given_in, home_of, is_heeded, is_start_waiting, is_taken_up, is_waited_for, received, slot_given, slot_heeding}
-use Rattle.otp_office.specs.Events.{is_any_waiting, IsOpening, Happened}
-use Rattle.otp_office.specs.Orders.{orders_in, starts_in}
-use Rattle.otp_office.specs.Offices.{AreApart, Begins, KeepsOffice, OfficeView}
+use Rattle.otp_bodies.specs.Events.{is_any_waiting, IsOpening, Happened}
+use Rattle.otp_bodies.specs.Orders.{orders_in, starts_in}
+use Rattle.otp_bodies.specs.Offices.{AreApart, Begins, KeepsOffice, OfficeView}
 use Rattle.otp_sup.specs.Facts.{AreToStart, HasBodies, IsOut, KeepsBodies, is_to_start, is_unsent}
 use Rattle.otp_sup.proofs.Calls.{later_is}
 use Rattle.otp_sup.proofs.Heeding.{Adds, Alias, Heeded, Heeder, Tells, alias, heeder, heeds_own, tells}
@@ -55,7 +55,7 @@ use Rattle.otp_bodies.proofs.Placed.{any_before, any_last, any_to, away_less, aw
 use Rattle.otp_sup.proofs.OneAfter.{AreOfRows, count_after, one_after, there_after}
 use Rattle.otp_bodies.proofs.Once.{none_home}
 use Rattle.otp_sup.proofs.OwnAfter.{own_after}
-use Rattle.otp_office.proofs.StartOrders.{event_starts}
+use Rattle.otp_bodies.proofs.StartOrders.{event_starts}
 use Rattle.otp_rules.specs.Alive.{EndsChild, LivesIn, ProcessesLived}
 
 -- the laws on which it rests
@@ -217,7 +217,7 @@ added_home s later k slot kept (inl (c, x, is, start, waits)) free calls row =
     subst Home (sym is)
     (stays_when_settled slot later.rows (is_any_waiting later) (received s later.rows (item.Call c x) kept) row
     (ap (λ (y : Bool). has_body slot (if y then kept ++ b ∷ [] else kept)) start
-    ∙ any_last (is_at_home slot) kept b (ap (λ (p : Place). is_at_home slot (record { origin = origin.Call c; place = p })) there ∙ same_number slot)))
+    ∙ any_last (is_at_home slot) kept b (ap (λ (p : BodyPlace). is_at_home slot (record { origin = origin.Call c; place = p })) there ∙ same_number slot)))
 added_home s later k slot kept (inr (is, taken)) free calls row =
     let Home : Kind → Type 0 = λ j. has_body slot (bodies_after s later j kept) ≡ true in
     let to : Option ℕ = slot_given s.rows later.rows in
@@ -553,7 +553,7 @@ bodies_happened laws old new reading k kept keeps h empty opens calls has =
     let s : State = state_of old.core in
     let e : Event = record { reading = reading; number = h.number; kind = k } in
     let starts : starts_in (orders_in (step s e).orders) ≡ at_most_one h.number = event_starts laws.works s e h.needed in
-    let plain : starts_in (step s e).orders ≡ at_most_one h.number = sym (Rattle.otp_office.proofs.StartOrders.starts_ordered (step s e).orders) ∙ starts in
+    let plain : starts_in (step s e).orders ≡ at_most_one h.number = sym (Rattle.otp_bodies.proofs.StartOrders.starts_ordered (step s e).orders) ∙ starts in
     let Before : List Effect → Type 0 = λ l. KeepsBodies s (starts_in l) kept in
     let After : State → Type 0 = λ later. KeepsBodies later (at_most_one h.number) (bodies_after s later k kept) in
     let Unsent : List ℕ → Type 0 = λ l. KeepsBodies (state_of new.core) l (bodies_after s (state_of new.core) k kept) in

@@ -3,7 +3,7 @@ use Rattle.std.specs.Prelude.{◌≡◌, ◌+◌, ◌<◌, ℕ, true, List, Opti
 use Rattle.std.proofs.Common.{◌∙◌, ap, arith, sym, subst}
 use Rattle.std.proofs.lemmas.Bool.{false≢true}
 use Rattle.otp_bodies.specs.declared.bodies.Kept.{Kept}
-use Rattle.otp_bodies.specs.declared.bodies.Place.TheVariants as placed
+use Rattle.otp_bodies.specs.declared.bodies.BodyPlace.TheVariants as placed
 use Rattle.otp_bodies.specs.declared.port.Flushed.{Flushed}
 use Rattle.otp_bodies.specs.declared.port.Flushed.TheVariants as flushed
 use Rattle.otp_bodies.specs.Bodies.{BodiesView, CanComeBack, bodies_in, bodies_sent, has_body, is_at_home, left_home, move_first, put_home, stray}

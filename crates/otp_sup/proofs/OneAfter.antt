@@ -18,7 +18,7 @@ use Rattle.otp_bodies.specs.declared.bodies.Origin.TheVariants as origin
 use Rattle.otp_bodies.specs.Letters.{is_end_note}
 use Rattle.otp_sup.specs.Moves.{bodies_after, home_of, is_taken_up, is_waited_for, received, slot_given}
 use Rattle.otp_bodies.specs.Bodies.{came_for, count_away, count_given, has_body, home_or_free, is_waiting, move_first, place_of_call, settled, taken_up}
-use Rattle.otp_office.specs.Events.{is_any_waiting}
+use Rattle.otp_bodies.specs.Events.{is_any_waiting}
 use Rattle.otp_bodies.specs.declared.bodies.Origin.TheVariants as origin
 use Rattle.otp_bodies.proofs.Once.{at_most_one, both, both_moved, both_once, both_opened, both_put, both_settled, came_few, came_given, count_opened, count_put, count_settled, counted_if, home_has_row, isnt, opened_has_row, there_or_away, up_given}
 

@@ -11,7 +11,7 @@ use Rattle.otp_bodies.specs.declared.bodies.Origin.TheVariants as origin
 use Rattle.otp_bodies.specs.Letters.{is_end_note}
 use Rattle.otp_sup.specs.Moves.{bodies_after, home_of, is_taken_up, is_waited_for, received, slot_given}
 use Rattle.otp_bodies.specs.Bodies.{came_for, opened_place, place_of_call, settled, taken_up}
-use Rattle.otp_office.specs.Events.{is_any_waiting}
+use Rattle.otp_bodies.specs.Events.{is_any_waiting}
 use Rattle.otp_bodies.proofs.Owned.{AreOwn, came_own, mapped_own, opened_own, put_own, settled_own, up_own}
 use Rattle.otp_bodies.specs.declared.bodies.Origin.TheVariants as origin
 

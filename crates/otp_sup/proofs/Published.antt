@@ -8,10 +8,10 @@ use Rattle.otp_rules.specs.declared.call.CountsNow.{CountsNow}
 use Rattle.otp_rules.specs.declared.event.Event.{Event}
 use Rattle.otp_rules.specs.declared.event.Kind.{Kind}
 use Rattle.otp_core.specs.View.{View, state_of}
-use Rattle.otp_counts.specs.Counts.{EndsWith}
-use Rattle.otp_office.specs.Events.{Happened, Readied}
-use Rattle.otp_office.specs.Offices.{OfficeView}
-use Rattle.otp_office.proofs.Readying.{readied_base, readied_history}
+use Rattle.otp_signals.specs.Counts.{EndsWith}
+use Rattle.otp_bodies.specs.Events.{Happened, Readied}
+use Rattle.otp_bodies.specs.Offices.{OfficeView}
+use Rattle.otp_bodies.proofs.Readying.{readied_base, readied_history}
 use Rattle.otp_spec.specs.Supervisor.{Supervisor}
 use Rattle.otp_sup.specs.Published.{AreCounted, counts_along}
 

@@ -25,13 +25,13 @@ use Rattle.otp_bodies.specs.Letters.{is_end_note}
 use Rattle.otp_bodies.specs.Loose.{is_with_call}
 use Rattle.otp_bodies.specs.declared.bodies.Kept.{Kept}
 use Rattle.otp_bodies.specs.declared.bodies.Origin.TheVariants as origin
-use Rattle.otp_bodies.specs.declared.bodies.Place.{Place}
-use Rattle.otp_bodies.specs.declared.bodies.Place.TheVariants as placed
+use Rattle.otp_bodies.specs.declared.bodies.BodyPlace.{BodyPlace}
+use Rattle.otp_bodies.specs.declared.bodies.BodyPlace.TheVariants as placed
 use Rattle.otp_bodies.proofs.Once.{any_unmoved, isnt}
 use Rattle.otp_bodies.proofs.Owned.{AreOwn, none_waits}
 use Rattle.otp_bodies.proofs.Placed.{or_split}
-use Rattle.otp_office.specs.Offices.{OfficeView}
-use Rattle.otp_office.specs.Events.{Happened, is_any_waiting}
+use Rattle.otp_bodies.specs.Offices.{OfficeView}
+use Rattle.otp_bodies.specs.Events.{Happened, is_any_waiting}
 use Rattle.otp_sup.specs.Moves.{NoneWaits, home_of, is_kept_at, keeps_children, moved, received}
 use Rattle.otp_sup.proofs.Calls.{later_is}
 use Rattle.otp_sup.proofs.Heeding.{Heeder, heeder}
@@ -82,13 +82,13 @@ put_other t kept b isnt h =
     (λ last. absurd (false≢true (sym (ap (λ (x : Bool). x || false) isnt) ∙ last)))
 
 -- nor does one that comes for a child pass a test of places that neither its home nor a free place passes
-come_other : (t : Place → Bool) (k : ℕ) (kept : List Kept) → t (placed.Home k) ≡ false → t placed.Free ≡ false → list_any (λ (b : Kept). t b.place) (come_home k kept) ≡ true → list_any (λ (b : Kept). t b.place) kept ≡ true
+come_other : (t : BodyPlace → Bool) (k : ℕ) (kept : List Kept) → t (placed.Home k) ≡ false → t placed.Free ≡ false → list_any (λ (b : Kept). t b.place) (come_home k kept) ≡ true → list_any (λ (b : Kept). t b.place) kept ≡ true
 come_other t k kept home free =
     let at : Kept → Bool = λ b. t b.place in
     let b : Kept = record { origin = origin.Nobody; place = place_without_line k kept } in
     cond_both (list_any (is_away k) kept) (move_first (is_away k) (placed.Home k) kept) (kept ++ b ∷ []) (λ (l : List Kept). list_any at l ≡ true → list_any at kept ≡ true)
     (λ _. any_unmoved (is_away k) at (placed.Home k) kept (λ x. home))
-    (λ _. put_other at kept b (cond_both (has_body k kept) placed.Free (placed.Home k) (λ (p : Place). t p ≡ false) (λ _. free) (λ _. home)))
+    (λ _. put_other at kept b (cond_both (has_body k kept) placed.Free (placed.Home k) (λ (p : BodyPlace). t p ≡ false) (λ _. free) (λ _. home)))
 
 -- it is at home for no other child,
 came_there : (rows : List Row) (home : Option ℕ) (kept : List Kept) → ((slot : ℕ) → home ≡ Some slot → list_any (has_slot slot) rows ≡ true) → AreThere rows kept → AreThere rows (came_for home kept)

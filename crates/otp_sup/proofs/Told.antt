@@ -14,8 +14,8 @@ use Rattle.otp_bodies.specs.declared.letter.Message.{Message}
 use Rattle.otp_bodies.specs.declared.told.ToldEnd.{ToldEnd}
 use Rattle.otp_bodies.specs.Ends.{told_with}
 use Rattle.otp_bodies.specs.Messages.{items_in, message}
-use Rattle.otp_office.specs.Events.{Happened, item_of, items_of}
-use Rattle.otp_office.specs.Offices.{OfficeView}
+use Rattle.otp_bodies.specs.Events.{Happened, item_of, items_of}
+use Rattle.otp_bodies.specs.Offices.{OfficeView}
 use Rattle.otp_sup.specs.Told.{ends_told_in, told_along, told_at}
 
 -- no messages tell no ends

@@ -24,30 +24,30 @@ use Rattle.otp_bodies.specs.Messages.{items_in, message}
 use Rattle.otp_bodies.specs.declared.bodies.Kept.{Kept}
 use Rattle.otp_bodies.specs.declared.letter.Message.{Message}
 use Rattle.otp_bodies.specs.declared.told.ToldEnd.{ToldEnd}
-use Rattle.otp_counts.specs.Counts.{Publishing, after_publish}
+use Rattle.otp_signals.specs.Counts.{Publishing, after_publish}
 use Rattle.otp_inbox.specs.Tokens.{TakerState}
-use Rattle.otp_office.specs.declared.turns.TurnAnswer.{TurnAnswer}
-use Rattle.otp_office.specs.declared.turns.TurnAnswer.TheVariants as answer
-use Rattle.otp_office.specs.declared.turns.TurnFault.{TurnFault}
-use Rattle.otp_office.specs.Offices.{OfficeView}
+use Rattle.otp_bodies.specs.declared.office.turns.TurnAnswer.{TurnAnswer}
+use Rattle.otp_bodies.specs.declared.office.turns.TurnAnswer.TheVariants as answer
+use Rattle.otp_bodies.specs.declared.office.turns.TurnFault.{TurnFault}
+use Rattle.otp_bodies.specs.Offices.{OfficeView}
 use Rattle.otp_sup.specs.Facts.{HasBodies, IsTable, TableView}
 use Rattle.otp_sup.specs.Moves.{bodies_after}
 use Rattle.otp_sup.specs.Published.{AreCounted, counts_along}
 use Rattle.otp_sup.specs.Shares.{gave, one_turn}
 use Rattle.otp_sup.specs.Told.{ends_told_in}
-use Rattle.otp_office.specs.Orders.{orders_in, starts_in}
+use Rattle.otp_bodies.specs.Orders.{orders_in, starts_in}
 use Rattle.otp_sup.specs.Turns.{Did, Published, Refused, Took, TookOrEmpty, Turned}
-use Rattle.otp_office.specs.Events.{Happened, IsRefusal, Readied, drawn_by, due_kind, item_of, items_of}
-use Rattle.otp_office.specs.Answers.{early_answer}
+use Rattle.otp_bodies.specs.Events.{Happened, IsRefusal, Readied, drawn_by, due_kind, item_of, items_of}
+use Rattle.otp_bodies.specs.Answers.{early_answer}
 use Rattle.otp_sup.proofs.Calls.{readied_state}
 use Rattle.otp_sup.proofs.Flushing.{readied_bodies}
 use Rattle.otp_sup.proofs.Planned.{planned}
 use Rattle.otp_sup.proofs.Published.{counts_happened, counts_same}
 use Rattle.otp_sup.proofs.Told.{ends_on, ends_same, ends_still}
-use Rattle.otp_office.proofs.Keeps.{none_taken, one_taken}
-use Rattle.otp_office.proofs.Readying.{readied_base, readied_before, readied_cut, readied_history, readied_stored}
-use Rattle.otp_office.proofs.Shared.{sent_readied, started_on, turned_on}
-use Rattle.otp_office.proofs.Telling.{told_on, told_same, told_still}
+use Rattle.otp_bodies.proofs.Keeps.{none_taken, one_taken}
+use Rattle.otp_bodies.proofs.Readying.{readied_base, readied_before, readied_cut, readied_history, readied_stored}
+use Rattle.otp_bodies.proofs.Shared.{sent_readied, started_on, turned_on}
+use Rattle.otp_bodies.proofs.Telling.{told_on, told_same, told_still}
 
 -- what happened once memory was taken happened to what was there before
 pub readied_happened : (old mid new : OfficeView) (reading : ℕ) (k : Kind) → Readied old mid → Happened reading k mid new → Happened reading k old new

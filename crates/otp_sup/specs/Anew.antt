@@ -3,7 +3,7 @@ use Rattle.std.specs.Prelude.{◌≡◌, ◌⊎◌, ◌↔◌, ℕ, List, [], Bo
 use Rattle.otp_bodies.specs.Bodies.{settled}
 use Rattle.otp_bodies.specs.declared.bodies.Kept.{Kept}
 use Rattle.otp_core.specs.View.{new_core}
-use Rattle.otp_counts.specs.Counts.{after_publish}
+use Rattle.otp_signals.specs.Counts.{after_publish}
 use Rattle.otp_rules.specs.Counts.{counts_of}
 use Rattle.otp_spec.specs.Supervisor.{Supervisor}
 use Rattle.otp_sup.specs.Facts.{KeepsRules, TableView}

@@ -3,13 +3,13 @@ use Rattle.std.specs.Prelude.{◌≡◌, ◌⊎◌, true, false, [], Result, Ok,
 use Rattle.otp_core.specs.declared.cut.CutFault.{CutFault}
 use Rattle.otp_sup.specs.declared.cut.CutAnswer.{CutAnswer}
 use Rattle.otp_sup.specs.declared.cut.CutAnswer.TheVariants as cut
-use Rattle.otp_office.specs.declared.turns.TurnAnswer.{TurnAnswer}
-use Rattle.otp_office.specs.declared.turns.TurnAnswer.TheVariants as answer
-use Rattle.otp_office.specs.declared.turns.TurnFault.{TurnFault}
+use Rattle.otp_bodies.specs.declared.office.turns.TurnAnswer.{TurnAnswer}
+use Rattle.otp_bodies.specs.declared.office.turns.TurnAnswer.TheVariants as answer
+use Rattle.otp_bodies.specs.declared.office.turns.TurnFault.{TurnFault}
 use Rattle.otp_sup.specs.Facts.{TableView}
-use Rattle.otp_office.specs.Orders.{has_some}
+use Rattle.otp_bodies.specs.Orders.{has_some}
 use Rattle.otp_core.specs.Full.{is_full}
-use Rattle.otp_office.specs.Cuts.{HasTooManyEvents, cut_office}
+use Rattle.otp_bodies.specs.Cuts.{HasTooManyEvents, cut_office}
 
 -- nor is an end that they told
 abbrev pub cut_table : TableView → TableView

@@ -10,19 +10,19 @@ use Rattle.otp_table.specs.declared.row.Row.{Row}
 use Rattle.otp_table.specs.declared.row.RowState.{RowState}
 use Rattle.otp_table.specs.Rows.{has_process, has_slot}
 use Rattle.otp_core.specs.View.{state_of, stored_of}
-use Rattle.otp_counts.specs.Counts.{EndsWith, Publishing}
+use Rattle.otp_signals.specs.Counts.{EndsWith, Publishing}
 use Rattle.otp_inbox.specs.Tokens.{TakerState}
 use Rattle.otp_rules.specs.Waits.{starts_waiting}
 use Rattle.otp_spec.specs.Supervisor.{Supervisor}
 use Rattle.otp_bodies.specs.declared.bodies.Kept.{Kept}
 use Rattle.otp_bodies.specs.Bodies.{are_given, calls_waiting, count_away, count_given, count_home, has_body, is_own, count_opened}
-use Rattle.otp_office.specs.Orders.{starts_in}
+use Rattle.otp_bodies.specs.Orders.{starts_in}
 use Rattle.otp_bodies.specs.declared.told.ToldEnd.{ToldEnd}
 use Rattle.otp_bodies.specs.Ends.{AreTold}
 use Rattle.otp_bodies.specs.Messages.{items_in}
 use Rattle.otp_sup.specs.Told.{ends_told_in}
-use Rattle.otp_office.specs.Events.{items_of}
-use Rattle.otp_office.specs.Offices.{KeepsOffice, OfficeView, starts_sent}
+use Rattle.otp_bodies.specs.Events.{items_of}
+use Rattle.otp_bodies.specs.Offices.{KeepsOffice, OfficeView, starts_sent}
 use Rattle.otp_sup.specs.Plans.{IsBegunBy}
 use Rattle.otp_sup.specs.Published.{AreCounted, counts_along}
 
@@ -78,11 +78,11 @@ pub record KeepsBodies (s : State) (starts : List ℕ) (kept : List Kept) : Type
   pub out : (slot p : ℕ) → LivesIn s slot p → is_to_start p starts ≡ false → 0 < count_away slot kept
   -- a body at home is that of a child that there is
   pub there : (slot : ℕ) → has_body slot kept ≡ true → list_any (has_slot slot) s.rows ≡ true
-  -- and of no child there are two bodies, at home and away together
+  -- no child has two bodies, at home and away together
   pub one_body : (slot : ℕ) → count_home slot kept + count_away slot kept ≤ 1
   -- for each child of an opening a body was handed in, and is kept
   pub given : are_given (count_opened s.flags s.specs) kept ≡ true
-  -- and of no specification two bodies are kept
+  -- of no specification two bodies are kept
   pub one_given : (k : ℕ) → count_given k kept ≤ 1
   -- a specification's body is no other child's than that in the slot of its place, at home or away; and no body waits with a call but
   -- one that a call brought
@@ -94,7 +94,7 @@ pub record HasOneBody (s : State) (starts : List ℕ) (kept : List Kept) (row : 
   pub one : count_home row.slot kept + count_away row.slot kept ≡ 1
   pub home : has_body row.slot kept ≡ (is_home s.waiting row.state || is_unsent starts row.state)
 
--- the same of an office's state and orders
+-- each child of an office has its body, by its state and its orders
 abbrev pub HasBodies : OfficeView → List Kept → Type 0
 HasBodies o kept = KeepsBodies (state_of o.core) (starts_in o.outbox) kept
 
@@ -117,7 +117,7 @@ pub record IsTable (plans : ℕ → Option Supervisor) (t : TableView) : Type 0 
   pub ends : t.ends_told ≡ ends_told_in t.office.core t.taker.taken
   -- it gave senders a share for each start that it sent
   pub starts : t.taker.given.starts ≡ length (starts_sent t.office)
-  -- and one for each event, and for each time that it found its inbox empty
+  -- it gave them one for each event, and for each time that it found its inbox empty
   pub turns : t.taker.given.turns ≡ length t.office.core.history + t.taker.empty_finds
 
 -- what holds whenever the lock is free, where the supervisors have these plans by the numbers of their inboxes
@@ -136,7 +136,7 @@ pub record KeepsRules (plans : ℕ → Option Supervisor) (t : TableView) : Type
   pub each_body : HaveOneBody t.office t.bodies
   -- the counts that were published last are those of its children (count_children)
   pub counts : EndsWith (counts_of (state_of t.office.core)) t.counts.published
-  -- and all that were published are those before its first event and after each one, in their order, each once; of one that got its
+  -- all that were published are those before its first event and after each one, in their order, each once; of one that got its
   -- plan later they come behind what its place counted before
   pub published : AreCounted (plans t.taker.inbox) (counts_along t.office.core.base t.office.core.history) t.counts.published
   -- the ends that it was told came with notes of its history: each is for the note's reason, and shown
@@ -145,7 +145,7 @@ pub record KeepsRules (plans : ℕ → Option Supervisor) (t : TableView) : Type
   pub ends : t.ends_told ≡ ends_told_in t.office.core t.taker.taken
   -- it gave senders a share for each start that it sent
   pub starts : t.taker.given.starts ≡ length (starts_sent t.office)
-  -- and one for each event, and for each time that it found its inbox empty
+  -- it gave them one for each event, and for each time that it found its inbox empty
   pub turns : t.taker.given.turns ≡ length t.office.core.history + t.taker.empty_finds
 
 -- what contracts see of a supervisor that is out of its lock

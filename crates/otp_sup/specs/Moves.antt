@@ -20,9 +20,9 @@ use Rattle.otp_bodies.specs.declared.bodies.Kept.{Kept}
 use Rattle.otp_bodies.specs.declared.bodies.Origin.TheVariants as origin
 use Rattle.otp_bodies.specs.Letters.{carries_body, is_end_note}
 use Rattle.otp_bodies.specs.Loose.{is_with_call}
-use Rattle.otp_sup.specs.declared.plans.Plan.{Plan}
+use Rattle.otp_sup.specs.declared.plans.BodiesPlan.{BodiesPlan}
 use Rattle.otp_bodies.specs.Bodies.{came_for, opened, place_of_call, settled, taken_up}
-use Rattle.otp_office.specs.Events.{is_any_waiting}
+use Rattle.otp_bodies.specs.Events.{is_any_waiting}
 
 -- the note tells the end of the row's process, and changes the row or waits
 abbrev pub is_heeded : Note → Row → Bool
@@ -109,7 +109,7 @@ abbrev pub NoneWaits : State → List Kept → Type 0
 NoneWaits s kept = is_any_waiting s ≡ false → list_any is_with_call kept ≡ false
 
 -- what an event of this kind is about to do with bodies, as far as it can be known before it
-pub record IsPlan (s : State) (k : Kind) (plan : Plan) : Type 0 where
+pub record IsPlan (s : State) (k : Kind) (plan : BodiesPlan) : Type 0 where
   pub home : plan.home ≡ home_by s k
   pub free : plan.free ≡ free_for s k
   pub waits : plan.waits ≡ is_waited_for s

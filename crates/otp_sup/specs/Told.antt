@@ -5,7 +5,7 @@ use Rattle.otp_bodies.specs.declared.letter.Message.{Message}
 use Rattle.otp_bodies.specs.declared.told.ToldEnd.{ToldEnd}
 use Rattle.otp_bodies.specs.Ends.{told_with}
 use Rattle.otp_core.specs.View.{View}
-use Rattle.otp_office.specs.Events.{item_of}
+use Rattle.otp_bodies.specs.Events.{item_of}
 
 -- the end that a message told, if it told one, which the event at this place of a history took. Places are counted from the
 -- last checkpoint on, before which there were so many events; what those took is kept no longer

@@ -14,13 +14,13 @@ use Rattle.otp_rules.specs.Next.{next_deadline}
 use Rattle.otp_core.specs.View.{state_of, stored_of, stored_state}
 use Rattle.otp_spec.specs.Supervisor.{Supervisor}
 use Rattle.otp_rules.specs.Counts.{counts_of}
-use Rattle.otp_counts.specs.Counts.{after_publish}
+use Rattle.otp_signals.specs.Counts.{after_publish}
 use Rattle.otp_signals.specs.declared.signal.Signal.{Signal}
 use Rattle.otp_bodies.specs.declared.port.Launched.{Launched}
 use Rattle.otp_bodies.specs.declared.port.ToldNote.{ToldNote}
-use Rattle.otp_office.specs.declared.turns.TurnAnswer.{TurnAnswer}
-use Rattle.otp_office.specs.declared.turns.TurnAnswer.TheVariants as answer
-use Rattle.otp_office.specs.declared.turns.TurnFault.{TurnFault}
+use Rattle.otp_bodies.specs.declared.office.turns.TurnAnswer.{TurnAnswer}
+use Rattle.otp_bodies.specs.declared.office.turns.TurnAnswer.TheVariants as answer
+use Rattle.otp_bodies.specs.declared.office.turns.TurnFault.{TurnFault}
 use Rattle.otp_bodies.specs.Ends.{told_with}
 use Rattle.otp_bodies.specs.Letters.{Comes, carries_body, one_if}
 use Rattle.otp_bodies.specs.Messages.{message}
@@ -28,13 +28,13 @@ use Rattle.otp_bodies.specs.declared.bodies.Kept.{Kept}
 use Rattle.otp_sup.specs.Moves.{bodies_after}
 use Rattle.otp_bodies.specs.Bodies.{bodies_in}
 use Rattle.otp_sup.specs.Cuts.{CutWhereFull}
-use Rattle.otp_office.specs.Cuts.{HasTooManyEvents}
+use Rattle.otp_bodies.specs.Cuts.{HasTooManyEvents}
 use Rattle.otp_sup.specs.Facts.{KeepsRules, TableView}
-use Rattle.otp_office.specs.Flushes.{SentOrders}
+use Rattle.otp_bodies.specs.Flushes.{SentOrders}
 use Rattle.otp_bodies.specs.Ports.{Taken, carried, taken_by}
 use Rattle.otp_sup.specs.Shares.{HasStarted, gave, one_turn}
-use Rattle.otp_office.specs.Events.{Happened, IsRefusal, Readied, due_kind}
-use Rattle.otp_office.specs.Answers.{answer_of, early_answer}
+use Rattle.otp_bodies.specs.Events.{Happened, IsRefusal, Readied, due_kind}
+use Rattle.otp_bodies.specs.Answers.{answer_of, early_answer}
 
 -- what count_children would answer after the event was published, once
 abbrev pub Published : TableView → TableView → Type 0

@@ -21,10 +21,10 @@ pub mod table;
 pub use client::{Client, SplitFault, SubmitCause, SubmitFault};
 pub use cut::CutAnswer;
 pub use naming::{PlanNaming, SupNaming};
+pub use otp_bodies::office::{Office, TurnAnswer, TurnFault};
 pub use otp_bodies::{
-    Bodies, Evidence, Flushed, Kept, Launched, Letter, MemoryPort, Message, NewProcess, Origin,
-    Place, Port, ToldEnd, ToldNote, count_opened, evidence_of,
+    Bodies, BodyPlace, Evidence, Flushed, Kept, Launched, Letter, MemoryPort, Message, NewProcess,
+    Origin, Port, ToldEnd, ToldNote, count_opened, evidence_of,
 };
-pub use otp_office::{Office, TurnAnswer, TurnFault};
 pub use sup::{Displaced, Sup, SupParts, Unlocked};
 pub use table::Table;

@@ -13,13 +13,13 @@ ghost use Rattle.otp_bodies.specs.declared.bodies.Kept.{Kept};
 ghost use Rattle.otp_bodies.specs.declared.bodies.Origin.TheVariants as origin;
 ghost use Rattle.otp_bodies.specs.Letters.{one_if};
 ghost use Rattle.otp_sup.specs.Facts.{HasBodies};
-ghost use Rattle.otp_office.specs.Events.{IsOpening, Happened};
+ghost use Rattle.otp_bodies.specs.Events.{IsOpening, Happened};
 ghost use Rattle.otp_core.specs.Full.{is_full};
 
-use crate::plans::{Plan, plan_of, slot_given};
+use crate::plans::{BodiesPlan, plan_of, slot_given};
 use otp_bodies::Bodies;
+use otp_bodies::office::Office;
 use otp_laws::laws::{stop_keeps_children, up_keeps_children};
-use otp_office::Office;
 use otp_rules::{Item, Kind, laws, lives};
 use otp_signals::{Words, WordsNaming};
 
@@ -77,7 +77,7 @@ pub(crate) fn happen<N: WordsNaming, B: Drop>(
 fn move_bodies<B: Drop>(
     bodies: &mut Bodies<B>,
     kind: &Kind,
-    plan: &Plan,
+    plan: &BodiesPlan,
     slot: Option<usize>,
     body: Option<B>,
 )

@@ -5,8 +5,8 @@ ghost use Rattle.otp_sup.specs.Moves.{IsPlan, free_for, given_among, home_of, is
 
 use crate::client::is_start_call;
 use crate::rows::{has_slot, keeps_row, slot_heeding};
+use otp_bodies::office::Office;
 use otp_core::Core;
-use otp_office::Office;
 use otp_reason::Note;
 use otp_rules::{Item, Kind, Waiting};
 use otp_signals::WordsNaming;
@@ -14,7 +14,7 @@ use otp_table::free_slot;
 
 /// What an event is about to do with bodies, as it was before the event.
 #[derive(Clone, Copy, Debug, PartialEq, Eq)]
-pub(crate) struct Plan {
+pub(crate) struct BodiesPlan {
     /// The slot of the child whose body comes home.
     pub home: Option<usize>,
     /// The slot that a new child gets, where the event may make one for a call that brought a body.
@@ -97,7 +97,7 @@ fn keeps_children(core: &Core, kind: &Kind) -> bool
 }
 
 /// What an event is about to do with bodies, as far as it can be known before it.
-pub(crate) fn plan_of<N: WordsNaming>(office: &Office<N>, kind: &Kind) -> Plan
+pub(crate) fn plan_of<N: WordsNaming>(office: &Office<N>, kind: &Kind) -> BodiesPlan
     ensures { IsPlan (state_of office.now.core) kind.now result }
 {
     let core = office.core();
@@ -105,7 +105,7 @@ pub(crate) fn plan_of<N: WordsNaming>(office: &Office<N>, kind: &Kind) -> Plan
         Kind::Took(Item::Note(note)) => home_of(office, note),
         _ => None,
     };
-    Plan {
+    BodiesPlan {
         home,
         free: free_for(core, kind),
         waits: is_waited_for(core),

@@ -8,9 +8,9 @@ ghost use Rattle.otp_core.specs.View.{state_of};
 ghost use Rattle.otp_sup.specs.Moves.{is_heeded, slot_heeding};
 
 use otp_bodies::number_of;
+use otp_bodies::office::Office;
 use otp_core::Core;
-use otp_decisions::places::is_removed;
-use otp_office::Office;
+use otp_machine::decisions::places::is_removed;
 use otp_reason::Note;
 use otp_signals::WordsNaming;
 use otp_table::{Row, RowState};

@@ -8,30 +8,30 @@ ghost use Rattle.otp_core.specs.View.{state_of};
 ghost use Rattle.otp_rules.specs.Counts.{counts_of};
 ghost use Rattle.otp_rules.specs.Next.{next_deadline};
 ghost use Rattle.otp_core.specs.Replies.{IsReplyAnswer};
-ghost use Rattle.otp_counts.specs.Counts.{fresh_pass};
+ghost use Rattle.otp_signals.specs.Counts.{fresh_pass};
 ghost use Rattle.otp_bodies.specs.Bodies.{are_ready, bodies_in, bodies_sent, is_left_of, is_stray, settled, without_first, count_opened};
 ghost use Rattle.otp_sup.specs.Cuts.{WasCut};
 ghost use Rattle.otp_sup.specs.Facts.{KeepsRules};
 ghost use Rattle.otp_sup.specs.Plans.{IsBegunBy};
 ghost use Rattle.otp_sup.specs.Anew.{IsPlannedAnew};
-ghost use Rattle.otp_office.specs.Offices.{slot_to_start};
-ghost use Rattle.otp_office.specs.Orders.{starts_in};
-ghost use Rattle.otp_office.specs.Flushes.{FlushesTo, starts_flushed};
+ghost use Rattle.otp_bodies.specs.Offices.{slot_to_start};
+ghost use Rattle.otp_bodies.specs.Orders.{starts_in};
+ghost use Rattle.otp_bodies.specs.Flushes.{FlushesTo, starts_flushed};
 ghost use Rattle.otp_bodies.specs.Ports.{carried};
-ghost use Rattle.otp_office.specs.Answers.{HasTurned, early_answer};
+ghost use Rattle.otp_bodies.specs.Answers.{HasTurned, early_answer};
 ghost use Rattle.otp_sup.specs.Shares.{credited, gave, starts_of};
-ghost use Rattle.otp_office.specs.Events.{IsRefusal, Readied};
+ghost use Rattle.otp_bodies.specs.Events.{IsRefusal, Readied};
 ghost use Rattle.otp_sup.specs.Turns.{IsSettled, Turned};
 
 use crate::cut::CutAnswer;
 use crate::moves::{come_back, happen};
 use crate::naming::SupNaming;
+use otp_bodies::office::{Office, TurnAnswer, TurnFault, answer_of};
 use otp_bodies::{Bodies, Flushed, Letter, Message, Port, ToldEnd, keep_end};
 use otp_core::{CutFault, ReplyAnswer};
-use otp_counts::{CountsPass, Publisher};
 use otp_inbox::{Inbox, Sender, Taker};
-use otp_office::{Office, TurnAnswer, TurnFault, answer_of};
 use otp_rules::{Kind, Reply};
+use otp_signals::counts::{CountsPass, Publisher};
 use otp_signals::{Signal, Words, WordsNaming};
 use otp_spec::SupSpec;
 use std::alloc::{AllocError, Global};
@@ -206,7 +206,7 @@ impl<N: SupNaming, B: Drop> Table<N, B> {
         if let Some(early) = self.office.early_answer(number) {
             return early;
         }
-        // A supervisor that rests has this memory from its last turn.
+        // A turn that did nothing has left this memory for the next one.
         if !is_ready(&self.office, &self.bodies, &self.ends) {
             make_ready(&mut self.office, &mut self.bodies, &mut self.ends)?;
         }
@@ -295,9 +295,9 @@ impl<N: SupNaming, B: Drop> Table<N, B> {
         ensures beside { P.beside port.new ≡ P.beside port.old }
         ensures counts { self.new.counts ≡ self.old.counts }
         ensures ends { self.new.ends_told ≡ self.old.ends_told }
-        // The body that the table doesn't keep any more is that of the child whose process was put,
+        // The body that the table doesn't keep any more is that of the child whose process was put: it went with the process
+        // that the port took.
         ensures bodies { self.new.bodies ≡ bodies_sent result (slot_to_start self.old.office) self.old.bodies }
-        // and it went with the process that the port took.
         ensures count { bodies_in self.new.bodies + carried (P.processes port.new) ≡ bodies_in self.old.bodies + carried (P.processes port.old) }
     {
         self.office.keeps_rules();

@@ -4,9 +4,9 @@ ghost use Rattle.std.specs.Prelude.{◌≡◌, ◌≤◌, ◌<◌, ◌^◌, Some
 use crate::fixtures::{Post, got, hand_in_all, has_told_end, same, seat_table};
 use crate::script::{Known, Stand, Step, known_of};
 use crate::shut::Shut;
-use otp_counts::CountsPass;
 use otp_inbox::{Inbox, Sender, UnnamedInbox};
 use otp_reason::Note;
+use otp_signals::counts::CountsPass;
 use otp_signals::{OpenWords, Signal, Viewer, Words};
 use otp_spec::SupSpec;
 use otp_sup::{Flushed, MemoryPort, Message, NewProcess, SupNaming, Table, TurnAnswer, TurnFault};

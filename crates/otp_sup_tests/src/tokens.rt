@@ -1,6 +1,6 @@
 // What threads carry of a supervisor is Send, and what they share of it is Sync, also as seen from a crate above.
-use otp_bridge::BoxedSubsystem;
 use otp_inbox::{Inbox, InboxNaming, Sender, Taker};
+use otp_job::bridge::BoxedSubsystem;
 use otp_job::{Body, BoxedJob};
 use otp_sup::{
     Bodies, Client, Evidence, Letter, MemoryPort, Message, NewProcess, Office, SubmitFault, Sup,

@@ -16,7 +16,7 @@ use Rattle.otp_spec.specs.declared.child.Shutdown.TheVariants as shutdown
 use Rattle.otp_spec.specs.Supervisor.{Supervisor}
 use Rattle.otp_system.specs.declared.calling.CallRefusal.{CallRefusal}
 use Rattle.otp_system.specs.declared.calling.CallRefusal.TheVariants as refusal
-use Rattle.otp_hand.specs.Hands.{ClientView}
+use Rattle.otp_hand.specs.Hands.{TreeClientView}
 
 abbrev pub is_infinity : Shutdown → Bool
 is_infinity shutdown.Infinity = true
@@ -32,7 +32,7 @@ module _ {J S : Type 0} where
   is_of_type kind.Supervisor (body.Bridge _) = true
   is_of_type kind.Supervisor (body.Sup _) = true
 
-  -- the same where the call names no type
+  -- a body that a child may run where the call names no type: no supervisor's
   abbrev pub is_no_table : Body J S → Bool
   is_no_table (body.Worker _) = true
   is_no_table (body.Bridge _) = true
@@ -60,27 +60,27 @@ module _ {J S : Type 0} where
   has_time _ _ = true
 
 -- the call was the last that was sent to this supervisor, under the number that was drawn last, and nothing else of the client changed
-pub record Called (table number : ℕ) (x : Call) (old new : ClientView) : Type 0 where
+pub record Called (table number : ℕ) (x : Call) (old new : TreeClientView) : Type 0 where
   pub drawn : new.owner ≡ after_draw number old.owner
   pub there : table < length old.senders
   pub sent : (s : SenderState Message) → slice_get old.senders table ≡ Some s → new.senders ≡ slice_set old.senders table (record s { sent = s.sent ++ plain_message (item.Call number x) ∷ [] })
   pub waiter : new.waiter ≡ old.waiter
 
 -- a number was drawn, and nothing else changed
-pub record HasSpent (old new : ClientView) : Type 0 where
+pub record HasSpent (old new : TreeClientView) : Type 0 where
   pub number : ℕ
   pub spent : new ≡ record old { owner = after_draw number old.owner }
 
 -- the client sends to this supervisor
-abbrev pub Reaches : ℕ → ℕ → ClientView → Type 0
+abbrev pub Reaches : ℕ → ℕ → TreeClientView → Type 0
 Reaches tables table client = (table < tables) × (table < length client.senders)
 
 -- the same, of one that had a plan when the tree got its name: that one is there
-abbrev pub IsThere : (ℕ → Option Supervisor) → ℕ → ℕ → ClientView → Type 0
+abbrev pub IsThere : (ℕ → Option Supervisor) → ℕ → ℕ → TreeClientView → Type 0
 IsThere plans tables table client = Reaches tables table client × (is_some (plans table) ≡ true)
 
 -- why a call that has a supervisor and a body that fits was not sent, and what it left behind
-abbrev pub IsUnsendable : CallRefusal → ClientView → ClientView → Type 0
+abbrev pub IsUnsendable : CallRefusal → TreeClientView → TreeClientView → Type 0
 IsUnsendable refusal.NoSupervisor old new = ⊥
 IsUnsendable refusal.WrongBody old new = ⊥
 IsUnsendable refusal.NotInfinity old new = ⊥
@@ -89,7 +89,7 @@ IsUnsendable refusal.OutOfMemory old new = (0 < old.owner.quota) × HasSpent old
 
 module _ {J S : Type 0} where
   -- why any call was not sent: the first of these that is so. A supervisor's number may be that of none that was added
-  abbrev pub IsNotSent : CallRefusal → (ℕ → Option Supervisor) → ℕ → ℕ → Call → Option (Body J S) → ClientView → ClientView → Type 0
+  abbrev pub IsNotSent : CallRefusal → (ℕ → Option Supervisor) → ℕ → ℕ → Call → Option (Body J S) → TreeClientView → TreeClientView → Type 0
   IsNotSent refusal.NoSupervisor plans tables table x body old new = ¬ (IsThere plans tables table old) × (new ≡ old)
   IsNotSent refusal.WrongBody plans tables table x body old new = Reaches tables table old × ((fits_call x body ≡ false) ⊎ (is_nested body ≡ true)) × (new ≡ old)
   IsNotSent refusal.NotInfinity plans tables table x body old new = Reaches tables table old × (fits_call x body ≡ true) × (has_time x body ≡ false) × (new ≡ old)

@@ -5,19 +5,20 @@ use Rattle.otp_bodies.specs.declared.port.ToldNote.{ToldNote}
 use Rattle.otp_hand.specs.Begun.{NoneBegan}
 use Rattle.otp_hand.specs.Hands.{HandView, RunnerView, launched_of, unsent_notes}
 use Rattle.otp_hand.specs.Turns.{IsTold, WorkedAsTold}
+use Rattle.otp_hand.specs.declared.runner.Unsent.{Unsent}
 use Rattle.otp_job.specs.Places.{PlaceView}
 use Rattle.otp_job.specs.Processes.{ProcessState, nested_table_of}
 use Rattle.otp_job.specs.declared.job.Told.{Told}
 use Rattle.otp_job.specs.declared.job.Turn.{Turn}
 use Rattle.otp_job.specs.declared.process.Ticket.{Ticket}
-use Rattle.otp_office.specs.declared.turns.TurnAnswer.{TurnAnswer}
-use Rattle.otp_office.specs.declared.turns.TurnFault.{TurnFault}
+use Rattle.otp_bodies.specs.declared.office.turns.TurnAnswer.{TurnAnswer}
+use Rattle.otp_bodies.specs.declared.office.turns.TurnFault.{TurnFault}
 use Rattle.otp_reason.specs.declared.note.Started.{Started}
 use Rattle.otp_reason.specs.declared.reason.Reason.{Reason}
 use Rattle.otp_signals.specs.declared.signal.Signal.{Signal}
 use Rattle.otp_spec.specs.Supervisor.{Supervisor}
 use Rattle.otp_sup.specs.Turns.{HadTurn}
-use Rattle.otp_system.specs.Servings.{is_served}
+use Rattle.otp_system.specs.Servings.{WentOrStayed, is_served}
 
 -- the supervisor with this number was planned, the tree has its place, and the hand a sender to it
 pub record MayServe (plans : ℕ → Option Supervisor) (table tables senders : ℕ) : Type 0 where
@@ -70,19 +71,23 @@ module _ {J S : Type 0} where
   abbrev pub runner_in : HandView J S → List (ℕ × ℕ) → RunnerView J S
   runner_in h looks = record { scheduler = h.scheduler; turning = h.turning; waiting = h.waiting; resting = h.resting; unsent = h.unsent; refusals = h.refusals; looks = looks }
 
-  -- the worker or the bridge had its turn
+  -- the worker or the bridge had its turn, and what it told its supervisor was sent, or is kept
   pub record IsWorked (started : J → PlaceView → Started → J → Type 0) (inited : S → Started → S → Type 0) (traps : J → Bool) (turned : J → Told → Turn → J → Type 0) (polled : S → Option Reason → S → Type 0) (terminated : S → Reason → S → Type 0)
-      (slots reading : ℕ) (p : ProcessState J S) (old new : HandView J S) : Type 0 where
+      (slots tables reading : ℕ) (p : ProcessState J S) (old new : HandView J S) : Type 0 where
     pub looks : List (ℕ × ℕ)
     pub more : List (ℕ × ℕ)
-    pub turn : WorkedAsTold started inited traps turned polled terminated slots reading p (runner_in old looks) (runner_in new more)
+    -- what it told
+    pub told : Option (Unsent J S)
+    pub turn : WorkedAsTold started inited traps turned polled terminated slots reading p (runner_in old looks) (record (runner_in new more) { unsent = told })
+    pub sent : Bool
+    pub letter : WentOrStayed sent tables told old.senders new.senders new.unsent
 
   -- what the turn at this reading did, of the process that was out: a supervisor's is under the number of its process
   abbrev pub HadTurnOut : (J → PlaceView → Started → J → Type 0) → (S → Started → S → Type 0) → (J → Bool) → (J → Told → Turn → J → Type 0) → (S → Option Reason → S → Type 0) → (S → Reason → S → Type 0)
       → (ℕ → Option Supervisor) → ℕ → ℕ → ℕ → ProcessState J S → Bool → HandView J S → HandView J S → Type 0
   HadTurnOut started inited traps turned polled terminated plans slots tables reading p served old new =
       MatchOption (nested_table_of p.body)
-      (IsWorked started inited traps turned polled terminated slots reading p old new)
+      (IsWorked started inited traps turned polled terminated slots tables reading p old new)
       (λ table. IsSupervised plans slots tables reading p.ticket table p.ticket.number served old new)
 
   -- a process was out, and had such a turn; no process began in the hand before it and after it

@@ -10,7 +10,7 @@ ghost use Rattle.otp_system.specs.Callings.{Called, IsNotSent, IsUnsendable, Rea
 
 use crate::system::System;
 use otp_core::ReplyAnswer;
-use otp_hand::Client;
+use otp_hand::TreeClient;
 use otp_inbox::{Inbox, InboxNaming};
 use otp_job::Body;
 use otp_rules::{Call, Reply};
@@ -53,7 +53,7 @@ impl<N: SupNaming, J: Drop, S: Drop> System<N, J, S> {
     /// # Errors
     ///
     /// [`NoTable`]: the tree has none of this number.
-    pub fn reach(&self, client: &Client<N, Body<J, S>>, table: usize) -> Result<(), NoTable>
+    pub fn reach(&self, client: &TreeClient<N, Body<J, S>>, table: usize) -> Result<(), NoTable>
         ensures ok { OnOk result (Reaches self.now.tables table client.now) }
         ensures planned { OnErr result (Reaches self.now.tables table client.now → ¬ (is_some (N.plan table) ≡ true)) }
     {
@@ -86,7 +86,7 @@ impl<N: SupNaming, J: Drop, S: Drop> System<N, J, S> {
         &self,
         rt: &R,
         alloc: Global,
-        client: &mut Client<N, Body<J, S>>,
+        client: &mut TreeClient<N, Body<J, S>>,
         table: usize,
         call: Call,
         body: Option<Body<J, S>>,
@@ -159,7 +159,7 @@ impl<N: SupNaming, J: Drop, S: Drop> System<N, J, S> {
 fn send_call<N: WordsNaming + InboxNaming, B: Drop, R: Wait>(
     rt: &R,
     alloc: Global,
-    client: &mut Client<N, B>,
+    client: &mut TreeClient<N, B>,
     words: &Words<N>,
     inbox: &Inbox<N, Message, Letter<B>>,
     call: Call,

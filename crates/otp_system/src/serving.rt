@@ -1,19 +1,21 @@
 //! How a hand serves a tree: a turn at a time.
-ghost use Rattle.std.specs.Prelude.{◌≤◌, ◌<◌, ◌≡◌, IsTrue, IfSome, None, Ok, Some, is_some, length, true};
+ghost use Rattle.std.specs.Prelude.{◌+◌, ◌≤◌, ◌<◌, ◌≡◌, IsTrue, IfSome, None, Ok, Some, is_some, length, true};
 ghost use Rattle.otp_spec.specs.declared.limits.TheConstants.{MAX_READING};
-ghost use Rattle.otp_office.specs.declared.turns.TurnAnswer.TheVariants.{Quiet};
-ghost use Rattle.otp_system.specs.Servings.{SentOrKept, is_served};
-ghost use Rattle.otp_hand.specs.Begun.{NoneBegan};
-ghost use Rattle.otp_hand.specs.Standings.{standing_of};
+ghost use Rattle.otp_bodies.specs.declared.office.turns.TurnAnswer.TheVariants.{Quiet};
+ghost use Rattle.otp_system.specs.Servings.{SentOrKept, WentOrStayed, is_served};
+ghost use Rattle.otp_hand.specs.Begun.{NoneBegan, starts_credited};
+ghost use Rattle.otp_hand.specs.Ended.{ends_held, ends_sent};
+ghost use Rattle.otp_hand.specs.Standings.{parts_in, standing_of};
 ghost use Rattle.otp_system.specs.Supervised.{GaveTurn, HadTurnOut, IsServed, IsTurned, IsWorked, KeptAll, WasTold};
 
 use crate::clock::Millis;
 use crate::happening::happening_of;
 use crate::listener::{Listener, Nobody};
 use crate::system::System;
-use otp_bridge::Subsystem;
 use otp_hand::places::put_into;
-use otp_hand::{Hand, TreeNaming, Unsent};
+use otp_hand::waiting::Resting;
+use otp_hand::{Hand, Senders, TreeNaming, Unsent};
+use otp_job::bridge::Subsystem;
 use otp_job::{Body, Job, Ticket};
 use otp_reason::Note;
 use otp_run::RunNaming;
@@ -140,7 +142,7 @@ impl<N: SupNaming, J: Job, S: Subsystem> System<N, J, S> {
                 self.supervise(rt, hand, table, number, reading, told, parent, listener)
             }
             None => {
-                self.work(hand, reading, parent, listener);
+                self.work(rt, hand, reading, parent, listener);
                 true
             }
         }
@@ -156,20 +158,35 @@ impl<N: SupNaming, J: Job, S: Subsystem> System<N, J, S> {
         hand.runner.look(&self.shared.words)
     }
 
-    /// The worker or the bridge that a hand has out has its turn.
-    fn work<L: Listener>(&self, hand: &mut Hand<N, J, S>, reading: u64, parent: usize, listener: &L)
+    /// The worker or the bridge that a hand has out has its turn, and what it tells its supervisor is sent.
+    fn work<R: Wait, L: Listener>(
+        &self,
+        rt: &R,
+        hand: &mut Hand<N, J, S>,
+        reading: u64,
+        parent: usize,
+        listener: &L,
+    )
     where
         N: RunNaming,
         requires { hand.old.unsent ≡ None }
         ensures passes { hand.new.passes ≡ hand.old.passes }
         ensures standing { standing_of hand.new ≡ standing_of hand.old }
-        ensures turn { IfSome hand.old.turning (λ p. IsWorked J.started S.inited J.is_trapping J.turned S.polled S.terminated self.now.slots reading p hand.old hand.new) }
+        ensures turn { IfSome hand.old.turning (λ p. IsWorked J.started S.inited J.is_trapping J.turned S.polled S.terminated self.now.slots self.now.tables reading p hand.old hand.new) }
     {
         let before = hand.runner.waiting.len();
-        hand.runner.work_as_told(&self.shared.words, reading);
+        let told = hand.runner.work_as_told(&self.shared.words, reading);
         if before < hand.runner.waiting.len() {
             listener.waits(parent);
         }
+        let _sent = self.send_told(
+            rt,
+            &mut hand.senders,
+            &mut hand.runner.resting,
+            &mut hand.runner.unsent,
+            told,
+            listener,
+        );
     }
 
     /// Looks for something to do, for letters, signals and deadlines of **all** that wait in this hand, and in the run queue as a
@@ -282,30 +299,59 @@ impl<N: SupNaming, J: Job, S: Subsystem> System<N, J, S> {
         if hand.runner.unsent.is_none() {
             return true;
         }
+        let unsent = hand.runner.unsent.take();
+        self.send_told(
+            rt,
+            &mut hand.senders,
+            &mut hand.runner.resting,
+            &mut hand.runner.unsent,
+            unsent,
+            listener,
+        )
+    }
+
+    /// Sends a letter of a hand, if there is one. Where it is refused the hand keeps it, and the answer is false.
+    fn send_told<R: Wait, L: Listener>(
+        &self,
+        rt: &R,
+        senders: &mut Senders<N, Body<J, S>>,
+        resting: &mut Resting<J, S>,
+        kept: &mut Option<Unsent<J, S>>,
+        told: Option<Unsent<J, S>>,
+        listener: &L,
+    ) -> bool
+        requires { kept.old ≡ None }
+        ensures sent { IsTrue result → kept.new ≡ None }
+        ensures letter { WentOrStayed result self.now.tables told senders.old senders.new kept.new }
+        ensures resting { resting.new ≡ resting.old }
+        ensures starts { starts_credited senders.new ≡ starts_credited senders.old }
+        ensures ends { ends_sent senders.new + ends_held kept.new ≡ ends_sent senders.old + ends_held told }
+        ensures parts { parts_in senders.new ≡ parts_in senders.old }
+    {
         let Some(
             Unsent {
                 ticket,
                 letter,
                 note,
             },
-        ) = hand.runner.unsent.take()
+        ) = told
         else {
             return true;
         };
         let inbox = self.shared.inbox_of(ticket.table);
-        if inbox.number() >= hand.senders.len() {
-            keep_unsent(&mut hand.runner.unsent, ticket, letter, note);
+        if inbox.number() >= senders.len() {
+            keep_unsent(kept, ticket, letter, note);
             return false;
         }
         let what = happening_of(note, letter.end(), ticket.again);
-        match hand.senders.send(rt, inbox, letter) {
+        match senders.send(rt, inbox, letter) {
             Ok(()) => {
-                hand.runner.resting.call(ticket.table);
+                resting.call(ticket.table);
                 listener.sent(&ticket, what);
                 true
             }
             Err(letter) => {
-                keep_unsent(&mut hand.runner.unsent, ticket, letter, note);
+                keep_unsent(kept, ticket, letter, note);
                 false
             }
         }
@@ -342,15 +388,13 @@ fn rest_at_once<N: SupNaming + RunNaming, J: Drop, S: Drop, R: Wait>(
     told: Signal,
     served: bool,
 ) -> bool
+    requires { sup.now.inbox < length hand.old.senders }
     ensures passes { hand.new.passes ≡ hand.old.passes }
     ensures standing { standing_of hand.new ≡ standing_of hand.old }
     ensures kept { KeptAll hand.old hand.new }
 {
     let is_wanted = hand.runner.resting.is_wanted() || hand.runner.around.is_crowd();
     if !served || is_wanted || hand.runner.unsent.is_some() || hand.runner.turning.is_none() {
-        return false;
-    }
-    if sup.inbox().number() >= hand.senders.len() {
         return false;
     }
     let Some(due) = hand.senders.rests_until(rt, sup, number, reading, told) else {

@@ -12,7 +12,7 @@ ghost use Rattle.otp_system.specs.Hearings.{HeardNothing};
 use crate::growth::Growth;
 use otp_hand::ending::count_end;
 use otp_hand::places::said_in;
-use otp_hand::{Client, Hand, Shared};
+use otp_hand::{Hand, Shared, TreeClient};
 use otp_job::Body;
 use otp_reason::Note;
 use otp_rules::{CountsNow, Item};
@@ -126,7 +126,7 @@ impl<N: SupNaming, J: Drop, S: Drop> System<N, J, S> {
 
     /// Asks the root to shut down: it stops its children, and ends. False, and nothing happens, where this isn't the
     /// client that the tree was opened with.
-    pub fn stop(&self, client: &mut Client<N, Body<J, S>>) -> bool
+    pub fn stop(&self, client: &mut TreeClient<N, Body<J, S>>) -> bool
         ensures told { result ≡ is_some client.old.waiter }
         // The shutdown was posted to the root's slot, for its number.
         ensures posted { IfSome client.old.waiter (λ _. client.new ≡ record client.old { owner = after_post ROOT_SLOT (word_of ROOT_NUMBER Shutdown) client.old.owner }) }
@@ -138,7 +138,7 @@ impl<N: SupNaming, J: Drop, S: Drop> System<N, J, S> {
 
     /// The next thing that the root told: `Up` once all its children have started, `Exit` when it has ended. None where
     /// there is nothing new, or this isn't the client that the tree was opened with.
-    pub fn root_note<R: Wait>(&self, rt: &R, client: &mut Client<N, Body<J, S>>) -> Option<Note>
+    pub fn root_note<R: Wait>(&self, rt: &R, client: &mut TreeClient<N, Body<J, S>>) -> Option<Note>
         ensures heard { IfSome result (λ note. Heard note client.old client.new) }
         // Where nothing is told the inbox was found empty: no note is lost.
         ensures nothing { IfNone result (HeardNothing self.now.tables client.old client.new) }

@@ -1,6 +1,6 @@
 -- Numbers of rows.
 use Rattle.std.specs.Prelude.{◌≡◌, ◌<◌, ◌+◌, ◌-◌, ◌==◌, ℕ, Bool, List, Some, None, cond, count_by, get_or}
-use Rattle.otp_table.specs.declared.counts.Counts.{Counts}
+use Rattle.otp_table.specs.declared.counts.ChildCounts.{ChildCounts}
 use Rattle.otp_table.specs.declared.counts.TheConstants.{KINDS}
 use Rattle.otp_table.specs.declared.row.Row.{Row}
 use Rattle.otp_table.specs.declared.row.RowState.{RowState}
@@ -26,7 +26,7 @@ abbrev pub AreOfKinds : List ℕ → List Row → Type 0
 AreOfKinds by_kind rows = (kind : ℕ) → kind < KINDS → get_or by_kind kind 0 ≡ count_by (is_of kind) rows
 
 -- these are the numbers of these rows
-pub record AreCounted (counts : Counts) (rows : List Row) : Type 0 where
+pub record AreCounted (counts : ChildCounts) (rows : List Row) : Type 0 where
   pub kinds : AreOfKinds counts.by_kind rows
   pub left : counts.left ≡ count_by is_left rows
   pub supervisors : counts.supervisors ≡ count_by is_supervisor rows

@@ -22,6 +22,6 @@ abbrev pub print_if : Option Name → Option ℕ
 print_if None = None
 print_if (Some id) = Some (fingerprint id)
 
--- that of the row's id. A dynamic row has none (supervisor, child_id())
+-- the fingerprint of the row's id. A dynamic row has none (supervisor, child_id())
 abbrev pub id_key : Row → Option ℕ
 id_key row = print_if row.id

@@ -23,11 +23,11 @@ pub record IsTable (t : Inside) : Type 0 where
   pub soonest : AreNotBefore t.soonest t.items.items
   -- no row has a number above the greatest
   pub within : AreWithin t.greatest (number_at t.items.items)
-  -- and no two have one
+  -- no two rows have one number
   pub apart : IsTrue t.is_apart → AreApart (number_at t.items.items)
   -- the room is there for the marks of all rows' ids too
   pub ids_room : vec_len t.items + t.room ≤ vec_capacity t.ids
   -- the marks are in the order of the ids' fingerprints
   pub ids_rise : Rises t.ids.items
-  -- and tell of exactly the rows that have an id, each once
+  -- the marks tell of exactly the rows that have an id, each once
   pub named : IsTrue t.is_named → AreMarks (id_at t.items.items) t.ids.items

@@ -13,7 +13,7 @@ const KINDS: usize = 7;
 
 /// How many rows there are of some kinds.
 #[derive(Clone, Copy, Debug)]
-pub struct Counts {
+pub struct ChildCounts {
     /// By the kinds of their states: a change of a state changes two of these, and what is asked is a sum of some.
     by_kind: [u32; KINDS],
     /// A significant child that is left.
@@ -38,7 +38,7 @@ fn kind_of(state: RowState) -> usize
     }
 }
 
-impl Counts {
+impl ChildCounts {
     ghost use Rattle.otp_table.specs.Counted.{AreCounted};
     ghost use Rattle.otp_table.specs.Rows.{is_active, is_awaited, is_timed, is_undefined, row_has};
 
@@ -46,7 +46,7 @@ impl Counts {
     pub fn new() -> Self
         ensures { AreCounted result [] }
     {
-        Counts {
+        ChildCounts {
             by_kind: [0; KINDS],
             left: 0,
             supervisors: 0,
@@ -130,7 +130,7 @@ fn is_left_as(row: &Row, state: RowState) -> bool
 }
 
 /// The row at the place is to have this state: the counts of the rows once it has.
-pub fn count_change(rows: &[Row], counts: &mut Counts, place: usize, state: RowState)
+pub fn count_change(rows: &[Row], counts: &mut ChildCounts, place: usize, state: RowState)
     requires counted { AreCounted counts.old rows.now }
     requires limit { length rows.now ≤ MAX_CHILDREN }
     requires place { place < length rows.now }
@@ -143,7 +143,7 @@ pub fn count_change(rows: &[Row], counts: &mut Counts, place: usize, state: RowS
 }
 
 /// The row is to stand last: the counts of the rows with it.
-pub fn count_row(rows: &[Row], counts: &mut Counts, row: &Row)
+pub fn count_row(rows: &[Row], counts: &mut ChildCounts, row: &Row)
     requires counted { AreCounted counts.old rows.now }
     requires limit { length rows.now ≤ MAX_CHILDREN }
     ensures { AreCounted counts.new (rows.now ++ row.now ∷ []) }
@@ -155,7 +155,7 @@ pub fn count_row(rows: &[Row], counts: &mut Counts, row: &Row)
 }
 
 /// The row at the place is to be taken out: the counts of the rows without it.
-pub fn uncount_row(rows: &[Row], counts: &mut Counts, place: usize)
+pub fn uncount_row(rows: &[Row], counts: &mut ChildCounts, place: usize)
     requires counted { AreCounted counts.old rows.now }
     requires limit { length rows.now ≤ MAX_CHILDREN }
     requires place { place < length rows.now }

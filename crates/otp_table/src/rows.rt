@@ -4,7 +4,7 @@ ghost use Rattle.otp_table.specs.Deadlines.{AreNotBefore};
 ghost use Rattle.std.specs.List.{list_any};
 ghost use Rattle.otp_table.specs.declared.row.Row.{Row};
 
-use crate::counts::{Counts, count_change, count_row, uncount_row};
+use crate::counts::{ChildCounts, count_change, count_row, uncount_row};
 use crate::deadlines::{soonest_of, soonest_place, soonest_with};
 use crate::hints::Hints;
 use crate::keys::{id_in, id_key, number_in};
@@ -24,7 +24,7 @@ pub struct Rows {
     /// How many more rows the memory of `items` is known to hold.
     room: usize,
     /// How many rows there are of some kinds.
-    counts: Counts,
+    counts: ChildCounts,
     /// So many rows, the first, are not undefined.
     defined: usize,
     /// No child has an earlier deadline.
@@ -64,7 +64,7 @@ impl Rows {
         Rows {
             items: Vec::new(alloc),
             room: 0,
-            counts: Counts::new(),
+            counts: ChildCounts::new(),
             defined: 0,
             soonest: u64::MAX,
             soonest_at: 0,
@@ -377,7 +377,7 @@ impl Rows {
         ensures room { self.new.room ≡ self.old.room }
     {
         self.items.clear();
-        self.counts = Counts::new();
+        self.counts = ChildCounts::new();
         self.defined = 0;
         self.soonest = u64::MAX;
         self.greatest = 0;

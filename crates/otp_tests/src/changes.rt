@@ -2,7 +2,7 @@
 
 use crate::driver::{Driver, Step, TWO, checkpoint};
 use crate::fixtures::{got, same};
-use otp_change::{ChangeFault, change};
+use otp_base::change::{ChangeFault, change};
 use otp_core::{Base, Core};
 use otp_file::read_tree;
 use otp_spec::{SpecFault, SupFlags};

@@ -3,6 +3,7 @@
 use crate::fixtures::{got, same, supervisor_of};
 use otp_sim::{Counted, Failed, SimEnd, sim, write_all};
 use otp_spec::SupSpec;
+use otp_text::LineFault;
 use std::alloc::Global;
 use std::cell::Cell;
 use std::io;
@@ -97,7 +98,7 @@ fn failed_reads(rt: HostRuntime) {
     reads_broken(&rt, rt.alloc(), b"", opened, end);
     reads_broken(&rt, rt.alloc(), &[b'x'; 512], opened, end);
     // a line that is too long is refused before its end is read
-    let end = SimEnd::LineRefused(1);
+    let end = SimEnd::LineRefused(1, LineFault::TooLong);
     reads_broken(&rt, rt.alloc(), &[b'x'; 513], opened, end);
 }
 

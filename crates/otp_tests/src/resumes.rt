@@ -3,7 +3,7 @@
 use crate::driver::{Driver, ONE, checkpoint};
 use crate::fixtures::{got, same};
 use otp_core::{Base, BaseFault, Core, ResumeFault};
-use otp_order::{OrderFault, check_order};
+use otp_needs::order::{OrderFault, check_order};
 use otp_rules::{Due, Ending, Phase, Sequel};
 use otp_spec::{MAX_CHILDREN, MAX_READING, SpecFault};
 use otp_table::Row;

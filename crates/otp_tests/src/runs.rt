@@ -2,7 +2,7 @@
 
 use crate::devices::{Slow, Taking};
 use crate::fixtures::{got, same, supervisor_of, write_numbered};
-use otp_sim::driven::{Driven, Stop};
+use otp_sim::driven::{Driven, LinesEnd};
 use otp_sim::{Counted, PIECE, Player, SimEnd, serve, sim};
 use std::alloc::{AllocError, Global};
 use std::process::Abort;
@@ -33,7 +33,7 @@ impl Driven for Refused {
         self.player.go_on(out)
     }
 
-    fn end(&self) -> Option<Stop> {
+    fn end(&self) -> Option<LinesEnd> {
         self.player.end()
     }
 }

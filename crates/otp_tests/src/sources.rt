@@ -2,7 +2,7 @@
 //! all forms that TOML has, and each number in them stands once; so the line on which its digits are is known.
 
 use crate::fixtures::{got, holds_of};
-use otp_source::{Part, Source};
+use otp_check::source::{Part, Source};
 use std::alloc::{AllocError, Global};
 use std::process::Abort;
 use toml::Value;

@@ -1,4 +1,5 @@
 pub mod Cuts
 pub mod Numbers
+pub mod OnePass
 pub mod Reasons
 pub mod Words

@@ -14,11 +14,11 @@ use Rattle.std.proofs.Math.Nat.{pow-le-pow_right}
 use Rattle.otp_text.specs.declared.word.TheConstants.{MOST_DIGITS}
 use Rattle.otp_text.specs.Words.{is_digit, is_decimal}
 
-both : (a b : Bool) → (a && b) ≡ true → (a ≡ true) × (b ≡ true)
+pub both : (a b : Bool) → (a && b) ≡ true → (a ≡ true) × (b ≡ true)
 both true b e = (refl, e)
 both false b e = cc
 
-digit_in_range : (byte : ℕ) → is_digit byte ≡ true → IsInRange 48 57 byte
+pub digit_in_range : (byte : ℕ) → is_digit byte ≡ true → IsInRange 48 57 byte
 digit_in_range byte e = grind (arith, nat_tests)
 
 digit_small : (byte : ℕ) → is_digit byte ≡ true → digit_value byte < 10
@@ -26,7 +26,7 @@ digit_small byte e =
     let range : IsInRange 48 57 byte = digit_in_range byte e in
     omega (arith, digit_value_digit byte range)
 
-all_digits : (word : List ℕ) → list_all is_digit word ≡ true → AllDigits 10 word
+pub all_digits : (word : List ℕ) → list_all is_digit word ≡ true → AllDigits 10 word
 all_digits [] e = tt
 all_digits (byte ∷ word) e =
     let parts = both (is_digit byte) (list_all is_digit word) e in

@@ -1,6 +1,11 @@
-pub mod Values
-pub mod Replies
 pub mod Effects
-pub mod Words
+pub mod Letters
+pub mod LineFaults
 pub mod Lines
+pub mod Moments
+pub mod Picture
 pub mod ReadBack
+pub mod Replies
+pub mod Seconds
+pub mod Values
+pub mod Words

@@ -52,6 +52,10 @@ one_name words = do
   word ← only_word words
   name_in word
 
+-- a number, and the reason behind it, if there is one
+unfoldable pub with_number : ℕ → Option Reason → Option (ℕ × Reason)
+with_number number found = option_map (λ reason. (number, reason)) found
+
 -- two words, a number and a reason
 unfoldable pub number_and_reason : List (List ℕ) → Option (ℕ × Reason)
 number_and_reason words = do

@@ -90,6 +90,12 @@ reason_in word =
     else if begins_with (codes "error:") word then when (is_lawful_text (drop 6 word)) (reason.Error (text_of (drop 6 word)))
     else None
 
+-- one word, a reason
+unfoldable pub one_reason : List (List ℕ) → Option Reason
+one_reason words = do
+  word ← only_word words
+  reason_in word
+
 unfoldable pub bool_in : List ℕ → Option Bool
 bool_in word =
     if is_word (bool_text true) word then Some true

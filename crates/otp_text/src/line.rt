@@ -7,10 +7,11 @@ ghost use Rattle.otp_text.specs.declared.line.Line.TheVariants as said;
 ghost use Rattle.otp_text.specs.Words.{words_of, words_left};
 ghost use Rattle.otp_text.specs.Lines.{number_in, one_number, one_name, number_and_reason, two_names, spec_named, spec_in, start_in, terminate_in, one_terminate, call_of, note_of, note_with, line_with, line_of_words, line_of, line_without_verb, IsTimely};
 
+use crate::digits::{cut_number, whole_number};
 use crate::verb::Verb;
 use crate::word::{
-    cut, first_word, is_end, last_word, read_bool, read_name, read_number, read_reason,
-    read_shutdown,
+    cut, first_word, is_end, last_word, read_bool, read_last_reason, read_name, read_number,
+    read_reason, read_shutdown,
 };
 use otp_reason::{Name, Note, Reason};
 use otp_rules::Call;
@@ -60,9 +61,22 @@ pub fn cut_verb(line: &[u8]) -> Option<(Verb, Option<&[u8]>)>
     cut_words(line)
 }
 
-/// The verb of these words, and what stands after it.
-#[tactic(auto, unfolding(crate::specs::Lines::line_of_words))]
+/// The verb of these words, and what stands after it. The two that most lines begin with are found by their bytes.
+#[tactic(auto, unfolding(crate::specs::Lines::line_of_words, crate::specs::Lines::verb_of))]
 fn cut_words(line: &[u8]) -> Option<(Verb, Option<&[u8]>)>
+    ensures verb { IfSome result (λ found. line_of_words (words_of line.now) ≡ line_with found.0 (words_left (option_copied found.1))) }
+    ensures none { IfNone result (line_of_words (words_of line.now) ≡ None) }
+{
+    match line {
+        [b'u', b'p', b' ', rest @ ..] => Some((Verb::Up, Some(rest))),
+        [b'e', b'x', b'i', b't', b' ', rest @ ..] => Some((Verb::Exit, Some(rest))),
+        _ => cut_any_words(line),
+    }
+}
+
+/// The verb of these words, whatever it is, and what stands after it.
+#[tactic(auto, unfolding(crate::specs::Lines::line_of_words))]
+fn cut_any_words(line: &[u8]) -> Option<(Verb, Option<&[u8]>)>
     ensures verb { IfSome result (λ found. line_of_words (words_of line.now) ≡ line_with found.0 (words_left (option_copied found.1))) }
     ensures none { IfNone result (line_of_words (words_of line.now) ≡ None) }
 {
@@ -214,7 +228,7 @@ fn read_terminate(rest: Option<&[u8]>) -> Option<Call>
 
 /// Who is terminated: a process number after `#`, or an id.
 #[tactic(auto, unfolding(crate::specs::Lines::terminate_in))]
-fn read_child(word: &[u8]) -> Option<Call>
+pub(crate) fn read_child(word: &[u8]) -> Option<Call>
     ensures { result ≡ terminate_in word.now }
 {
     match word.strip_prefix(b"#") {
@@ -225,7 +239,7 @@ fn read_child(word: &[u8]) -> Option<Call>
 
 /// A clock's reading or a process number.
 #[tactic(auto, unfolding(crate::specs::Lines::number_in))]
-fn read_any_number(word: &[u8]) -> Option<u64>
+pub(crate) fn read_any_number(word: &[u8]) -> Option<u64>
     ensures number { result ≡ number_in word.now }
     ensures within { IfSome result (λ number. number ≤ MAX_READING) }
 {
@@ -233,12 +247,16 @@ fn read_any_number(word: &[u8]) -> Option<u64>
 }
 
 /// One word, a number.
-#[tactic(auto, unfolding(crate::specs::Lines::one_number))]
+#[tactic(auto, unfolding(crate::specs::Lines::one_number, crate::specs::Words::only_word))]
 fn read_one_number(rest: Option<&[u8]>) -> Option<u64>
     ensures number { result ≡ one_number (words_left (option_copied rest.entry)) }
     ensures within { IfSome result (λ number. number ≤ MAX_READING) }
 {
-    read_any_number(last_word(rest)?)
+    let line = rest?;
+    match whole_number(line) {
+        Some(number) => Some(number),
+        None => read_any_number(last_word(Some(line))?),
+    }
 }
 
 /// One word, a name.
@@ -250,8 +268,20 @@ fn read_one_name(rest: Option<&[u8]>) -> Option<Name>
 }
 
 /// Two words, a process number and a reason.
-#[tactic(auto, unfolding(crate::specs::Lines::number_and_reason))]
+#[tactic(auto, unfolding(crate::specs::Lines::number_and_reason, crate::specs::Lines::with_number))]
 fn read_number_and_reason(rest: Option<&[u8]>) -> Option<(u64, Reason)>
+    ensures { result ≡ number_and_reason (words_left (option_copied rest.entry)) }
+{
+    let line = rest?;
+    match cut_number(line) {
+        Some((number, last)) => Some((number, read_last_reason(last)?)),
+        None => read_words(rest),
+    }
+}
+
+/// Two words, a process number and a reason, read one after the other.
+#[tactic(auto, unfolding(crate::specs::Lines::number_and_reason))]
+fn read_words(rest: Option<&[u8]>) -> Option<(u64, Reason)>
     ensures { result ≡ number_and_reason (words_left (option_copied rest.entry)) }
 {
     let (word, rest) = first_word(rest)?;

@@ -1,8 +1,9 @@
 //! Replies as they are printed.
 
-ghost use Rattle.std.specs.Prelude.{◌≡◌, ◌++◌, OnOk, OnSome, option_copied, unwrap_or, []};
+ghost use Rattle.std.specs.Prelude.{◌≡◌, ◌++◌, OnOk, OnSome, codes, option_copied, unwrap_or, []};
 ghost use Rattle.std.specs.List.{flat_map};
 ghost use Rattle.otp_reason.specs.Names.{name_bytes};
+ghost use Rattle.otp_spec.specs.Words.{type_word};
 ghost use Rattle.otp_text.specs.Values.{modules_text};
 ghost use Rattle.otp_text.specs.Replies.{fault_text, id_text, child_process_text, child_text, which_text, count_text, counts_text, spec_names_text, spec_restart_text, spec_shutdown_text, spec_text, reply_text};
 
@@ -13,7 +14,7 @@ use crate::value::{
 };
 use otp_reason::Name;
 use otp_rules::{CallFault, ChildLine, ChildProcess, CountsNow, Reply};
-use otp_spec::{ChildSpec, Modules};
+use otp_spec::{ChildSpec, ChildType, Modules};
 use std::alloc::AllocError;
 
 /// Appends the answer to a call.
@@ -106,9 +107,7 @@ fn add_child(child: &ChildLine, text: &mut ShortText) -> Option<()>
     add_id(&child.id, text)?;
     text.add(b",")?;
     add_child_process(child.process, text)?;
-    text.add(b",")?;
-    text.add(child.kind.word().as_bytes())?;
-    text.add(b",")?;
+    add_kind(child.kind, text)?;
     add_modules(&child.modules, text)
 }
 
@@ -132,6 +131,17 @@ fn add_child_process(process: ChildProcess, text: &mut ShortText) -> Option<()>
         ChildProcess::Number(number) => text.add_process(number),
         ChildProcess::Restarting => text.add(b"restarting"),
         ChildProcess::Undefined => text.add(b"undefined"),
+    }
+}
+
+/// Adds what a child is, between commas.
+#[tactic(auto, unfolding(otp_spec::specs::Words::type_word))]
+fn add_kind(kind: ChildType, text: &mut ShortText) -> Option<()>
+    ensures { OnSome result (text.new ≡ text.old ++ codes "," ++ type_word kind ++ codes ",") }
+{
+    match kind {
+        ChildType::Worker => text.add(b",worker,"),
+        ChildType::Supervisor => text.add(b",supervisor,"),
     }
 }
 

@@ -1,11 +1,12 @@
 //! Words of a line, and the values that they spell.
 
-ghost use Rattle.std.specs.Prelude.{◌≡◌, ◌<◌, ◌≤◌, ◌==◌, ◌∷◌, length, position, true, option_copied, IfSome};
+ghost use Rattle.std.specs.Prelude.{◌≡◌, ◌<◌, ◌≤◌, ◌==◌, ◌∷◌, length, position, drop, codes, Some, true, option_copied, IfSome};
 ghost use Rattle.std.specs.List.{list_all};
 ghost use Rattle.std.specs.Option.{option_map};
 ghost use Rattle.std.specs.Str.{bytes_eq};
 ghost use Rattle.std.specs.Str.Parse.{digits_value};
-ghost use Rattle.otp_text.specs.Words.{words_of, words_left, no_words, take_word, only_word, is_digit, is_decimal, number_up_to, name_in, reason_in, bool_in, shutdown_in};
+ghost use Rattle.otp_reason.specs.declared.reason.Reason.TheVariants as reason;
+ghost use Rattle.otp_text.specs.Words.{words_of, words_left, no_words, take_word, only_word, is_digit, is_decimal, number_up_to, name_in, reason_in, one_reason, begins_with, bool_in, shutdown_in};
 
 use otp_reason::{Name, Reason, Text};
 use otp_spec::{MAX_SHUTDOWN, Shutdown};
@@ -91,7 +92,7 @@ fn is_number(word: &[u8]) -> bool
 }
 
 /// Whether each byte is a digit.
-fn are_digits(word: &[u8]) -> bool
+pub(crate) fn are_digits(word: &[u8]) -> bool
     ensures { result ≡ list_all is_digit word.now }
 {
     word.iter().all(|byte| matches!(byte, b'0'..=b'9'))
@@ -116,6 +117,38 @@ pub fn read_name(word: &[u8]) -> Option<Name>
 {
     let name = Name::new(word)?;
     if name.is_lawful() { Some(name) } else { None }
+}
+
+/// The reason that is the only word of a line. Most lines end with an error, whose term holds no space: then no other word is
+/// looked for.
+#[tactic(auto, unfolding(crate::specs::Words::one_reason))]
+pub(crate) fn read_last_reason(line: &[u8]) -> Option<Reason>
+    ensures { result ≡ one_reason (words_of line.now) }
+{
+    if let Some(text) = error_term(line) {
+        return Some(Reason::Error(text));
+    }
+    read_reason(last_word(Some(line))?)
+}
+
+/// The term of the error that a line is.
+#[tactic(auto, using(crate::proofs::OnePass::error_line))]
+fn error_term(line: &[u8]) -> Option<Text>
+    ensures { IfSome result (λ text. one_reason (words_of line.now) ≡ Some (reason.Error text)) }
+{
+    let term = after_error(line)?;
+    Text::new(term)
+}
+
+/// What stands after the word of an error.
+fn after_error(line: &[u8]) -> Option<&[u8]>
+    ensures word { IfSome result (λ term. begins_with (codes "error:") line.now ≡ true) }
+    ensures term { IfSome result (λ term. term.now ≡ drop 6 line.now) }
+{
+    match line {
+        [b'e', b'r', b'r', b'o', b'r', b':', term @ ..] => Some(term),
+        _ => None,
+    }
 }
 
 /// The reason that is printed so.

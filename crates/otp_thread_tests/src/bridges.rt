@@ -2,8 +2,8 @@
 use crate::fixtures::same;
 use crate::jobs::run;
 use crate::probes::{AnyBody, bridge_body, no_calls};
-use otp_bridge::BridgePhase;
 use otp_job::Body;
+use otp_job::bridge::BridgePhase;
 use otp_reason::{Note, Reason, Text};
 use otp_signals::Signal;
 use std::alloc::Global;

@@ -1,10 +1,10 @@
 ghost use Rattle.std.specs.Prelude.{◌≡◌, ◌≤◌};
-ghost use Rattle.otp_counts.specs.Counts.{fresh_pass};
-ghost use Rattle.otp_counts.specs.Words.{AreFew};
+ghost use Rattle.otp_signals.specs.Counts.{fresh_pass};
+ghost use Rattle.otp_signals.specs.Words.{AreFew};
 
 use crate::fixtures::{got, same};
-use otp_counts::{CountsPass, Publisher};
 use otp_rules::CountsNow;
+use otp_signals::counts::{CountsPass, Publisher};
 use std::alloc::Global;
 use std::process::Abort;
 use std::thread;

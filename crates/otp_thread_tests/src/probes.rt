@@ -1,6 +1,6 @@
 // A job and a subsystem that note each call in an atomic word, and processes of them.
 use crate::fixtures::got;
-use otp_bridge::{BoxedSubsystem, Bridge, Subsystem};
+use otp_job::bridge::{BoxedSubsystem, Bridge, Subsystem};
 use otp_job::{Body, BoxedJob, Job, Process, Told, Turn};
 use otp_reason::{Reason, Started};
 use std::alloc::Global;

@@ -5,7 +5,7 @@ ghost use Rattle.otp_run.specs.Rule.{all_parts};
 ghost use Rattle.otp_run.specs.Schedulers.{out};
 
 use crate::fixtures::{got, same};
-use otp_bridge::BoxedSubsystem;
+use otp_job::bridge::BoxedSubsystem;
 use otp_job::{Body, BoxedJob, Process, TableNo};
 use otp_run::{
     GatherFault, LiveTotal, RunNaming, RunQueue, SHARE_LIMIT, Scheduler, Share, gather, is_all,

@@ -1,7 +1,7 @@
 // A plan as text, a line for each supervisor: the ids of its children in start order, each with what it runs, as `db=w1` for a
 // worker's job 1, `gate=b` for a bridge, `pool=^3` for supervisor 3, and `any` for the specification of dynamic children.
 use crate::fixtures::{got, same};
-use otp_draft::{DraftFault, Refused, TablePlan, TreeDraft, TreePlan};
+use otp_draft::{DraftFault, DraftedTable, Refused, TreeDraft, TreePlan};
 use otp_job::Body;
 use otp_spec::{ChildSpec, MAX_TABLES, Strategy, SupFlags};
 use std::alloc::Global;
@@ -97,7 +97,7 @@ fn show_table(rt: &impl Abort, specs: &[ChildSpec], bodies: &[Body<u64, u64>], t
     show(rt, text, "\n");
 }
 
-fn show_all(rt: &impl Abort, plans: &[TablePlan<u64, u64>], first: usize, text: &mut String) {
+fn show_all(rt: &impl Abort, plans: &[DraftedTable<u64, u64>], first: usize, text: &mut String) {
     for (place, plan) in plans.iter().enumerate() {
         show_number(rt, text, "", first.saturating_add(place) as u64);
         show(rt, text, ":");

@@ -1,8 +1,8 @@
 // What threads carry is Send, and what they share is Sync, also as seen from a crate above.
-use otp_bridge::{BoxedSubsystem, Bridge};
-use otp_counts::{CountsPass, Publisher};
+use otp_job::bridge::{BoxedSubsystem, Bridge};
 use otp_job::{After, Body, BoxedJob, EndNote, Process, Spent, TableNo, Ticket};
 use otp_run::{GatherFault, LiveTotal, OwnDeque, RunNaming, RunQueue, Scheduler, Share, Victim};
+use otp_signals::counts::{CountsPass, Publisher};
 use otp_signals::{Owner, Viewer, Words, WordsNaming};
 
 fn is_send<T: Send>(_: &T) {}

@@ -10,7 +10,7 @@ use Rattle.otp_run.proofs.Places.{each_at}
 use Rattle.otp_run.specs.Gathers.{IsAll}
 use Rattle.otp_run.specs.Lists.{AllAt}
 use Rattle.otp_run.specs.Schedulers.{SchedulerState}
-use Rattle.otp_hand.specs.Hands.{ClientView, HandView, senders_of}
+use Rattle.otp_hand.specs.Hands.{TreeClientView, HandView, senders_of}
 use Rattle.otp_hand.specs.Sendings.{parts_at, parts_to}
 use Rattle.otp_close.proofs.Standings.{at_map}
 use Rattle.otp_close.specs.Closes.{IsReached, all_senders}
@@ -48,7 +48,7 @@ module _ {J S : Type 0} where
         subst (λ n. AllAt (of n) (schedulers_of hands)) (sym (long ∙ many)) (at_map scheduler_of (of count) hands each),
       )
 
-  pub opened_complete : (root : Ticket) (count tables own_tables : ℕ) (hands : List (HandView J S)) (client : ClientView) (firsts : List (SenderState Message)) (w : TakerState Message) → 0 < count → AreOpened root count hands
+  pub opened_complete : (root : Ticket) (count tables own_tables : ℕ) (hands : List (HandView J S)) (client : TreeClientView) (firsts : List (SenderState Message)) (w : TakerState Message) → 0 < count → AreOpened root count hands
       → own_tables ≡ tables → client.waiter ≡ Some w → w.inbox ≡ tables → length firsts ≡ tables + 1 → AllAt (λ k s. s ≡ first_sender k) firsts → length client.senders ≡ length firsts
       → ((k : ℕ) → parts_at k client.senders + parts_to k (map senders_of hands) ≡ parts_at k firsts) → AllAt (λ _ h. length (senders_of h) ≡ length firsts) hands → IsAll (schedulers_of hands) × IsReached own_tables client (all_senders client hands)
   opened_complete root count tables own_tables hands client firsts w some opened own waiter inbox long are_first reach split far = (

@@ -1,7 +1,7 @@
 -- What comes back of a tree that was not closed, and when a run tells of a mismatch. (own)
 use Rattle.std.specs.Prelude.{◌≡◌, ⊤, List}
 use Rattle.otp_close.specs.Closes.{IsMismatchOnly, NoneMissing}
-use Rattle.otp_hand.specs.Hands.{ClientView, HandView, SystemView}
+use Rattle.otp_hand.specs.Hands.{TreeClientView, HandView, SystemView}
 use Rattle.otp_open.specs.Plans.{HaveBodies, IsOpenFault}
 use Rattle.otp_open.specs.declared.plan.TablePlan.{TablePlan}
 use Rattle.otp_tree.specs.declared.closing.Unclosed.{Unclosed}
@@ -10,7 +10,7 @@ use Rattle.otp_tree.specs.declared.whole.RunFault.TheVariants as run
 
 -- the tree, as it was, as far as contracts see it: as many slots and supervisors, and hands and client with all that stands in their
 -- views. What lies under a lock is known by its type alone
-pub record IsAsItWas {N J S : Type 0} (system : SystemView) (hands : List (HandView J S)) (client : ClientView) (k : Unclosed N J S) : Type 0 where
+pub record IsAsItWas {N J S : Type 0} (system : SystemView) (hands : List (HandView J S)) (client : TreeClientView) (k : Unclosed N J S) : Type 0 where
   pub system_is : k.system ≡ system
   pub hands_are : k.hands.items ≡ hands
   pub client_is : k.client ≡ client

@@ -6,16 +6,16 @@ ghost use Rattle.otp_close.specs.Partings.{schedulers_of};
 ghost use Rattle.otp_close.specs.Tables.{AreOfTables};
 ghost use Rattle.otp_close.specs.Totals.{HasAllEnds, HasAllStarts, HasHeard};
 ghost use Rattle.otp_hand.specs.Ended.{held_by};
-ghost use Rattle.otp_report.specs.Tellings.{AreSo};
+ghost use Rattle.otp_close.specs.Tellings.{AreSo};
 ghost use Rattle.otp_run.specs.Gathers.{IsLiveTotal, begun_of, ended_of};
 ghost use Rattle.otp_run.specs.Rule.{ticket_of};
 ghost use Rattle.otp_sup.specs.Plans.{AreAllPlanned};
 ghost use Rattle.otp_tree.specs.Closes.{IsAsItWas};
 
+use otp_close::report::Report;
 use otp_close::{CloseFault, Intact, close, finish};
-use otp_hand::{Client, Hand, TreeNaming};
+use otp_hand::{Hand, TreeClient, TreeNaming};
 use otp_job::Body;
-use otp_report::Report;
 use otp_system::{Growth, System};
 use std::alloc::Global;
 use std::sync::Wait;
@@ -25,7 +25,7 @@ use std::sync::Wait;
 pub struct Unclosed<N: TreeNaming, J: Drop, S: Drop> {
     pub system: System<N, J, S>,
     pub hands: Vec<Hand<N, J, S>>,
-    pub client: Client<N, Body<J, S>>,
+    pub client: TreeClient<N, Body<J, S>>,
 }
 
 /// Takes the tree apart, and reports what it was, with what is left in each inbox.
@@ -47,7 +47,7 @@ pub fn close_tree<N: TreeNaming, J: Drop, S: Drop, R: Wait>(
     alloc: Global,
     system: System<N, J, S>,
     hands: Vec<Hand<N, J, S>>,
-    client: Client<N, Body<J, S>>,
+    client: TreeClient<N, Body<J, S>>,
 ) -> Result<Report<J, S>, CloseFault<J, S, Unclosed<N, J, S>>>
     // All parts were there, if there is a report.
     ensures complete { OnSome (report_in result) (IsComplete system hands.items client) }
@@ -122,7 +122,7 @@ pub fn finish_tree<N: TreeNaming, J: Drop, S: Drop, R: Wait>(
     alloc: Global,
     system: System<N, J, S>,
     hands: Vec<Hand<N, J, S>>,
-    client: Client<N, Body<J, S>>,
+    client: TreeClient<N, Body<J, S>>,
 ) -> Result<Report<J, S>, CloseFault<J, S, ()>>
     ensures whole { IfOk result (λ report. IsReportOf (length report.tables.items) report) }
     // It has each supervisor that the tree was opened with, and those that were added; places that never had one are left out.

@@ -78,9 +78,9 @@ pub use adding::{AddFault, Unadded, add_tree};
 pub use closing::{Unclosed, close_tree, finish_tree};
 pub use opening::{Opened, Parts};
 pub use otp_close::CloseFault;
-pub use otp_hand::{Client, Hand, Senders, TreeNaming};
+pub use otp_close::report::{Mismatch, Report, TableReport};
+pub use otp_hand::{Hand, Senders, TreeClient, TreeNaming};
 pub use otp_open::{SystemFault, TableDraft, TablePlan, Unopened, Unplanned};
-pub use otp_report::{Mismatch, Report, TableReport};
 pub use otp_system::{
     CallRefusal, Gate, Happening, Listener, MAX_HANDS, Millis, NoTable, System, Uncalled, pool_run,
 };

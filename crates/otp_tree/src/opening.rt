@@ -12,8 +12,7 @@ ghost use Rattle.otp_open.specs.Passes.{CanRead};
 ghost use Rattle.otp_open.specs.Plans.{ArePlanned, HaveBodies, IsOpenFault};
 ghost use Rattle.otp_open.specs.Readies.{AreReadyFor};
 
-use otp_counts::CountsPass;
-use otp_hand::{Client, Hand, ROOT_NUMBER, ROOT_SLOT, TreeNaming};
+use otp_hand::{Hand, ROOT_NUMBER, ROOT_SLOT, TreeClient, TreeNaming};
 use otp_inbox::UnnamedInbox;
 use otp_job::{Body, Process, TableNo};
 use otp_open::{
@@ -22,6 +21,7 @@ use otp_open::{
 };
 use otp_run::RunQueue;
 use otp_signals::OpenWords;
+use otp_signals::counts::CountsPass;
 use otp_sup::{Letter, Message, Sup, SupNaming};
 use otp_system::{Growth, System};
 use std::alloc::{AllocError, Global};
@@ -41,7 +41,7 @@ pub struct Parts<J: Drop, S: Drop> {
 pub struct Opened<N: TreeNaming, J: Drop, S: Drop> {
     pub system: System<N, J, S>,
     pub hands: Vec<Hand<N, J, S>>,
-    pub client: Client<N, Body<J, S>>,
+    pub client: TreeClient<N, Body<J, S>>,
     /// By which whoever opened the tree reads the counts of each supervisor, in the order of their numbers.
     pub passes: Vec<CountsPass>,
 }
@@ -100,7 +100,7 @@ struct ReadyTree<N: TreeNaming, J: Drop, S: Drop> {
     /// The room for the supervisors.
     sups: Vec<Sup<N, Body<J, S>>>,
     hands: Vec<Hand<N, J, S>>,
-    client: Client<N, Body<J, S>>,
+    client: TreeClient<N, Body<J, S>>,
     passes: Vec<CountsPass>,
 }
 
@@ -174,7 +174,7 @@ impl<J: Drop, S: Drop> Bare<J, S> {
             process,
         )?;
         let sups = Vec::with_capacity(alloc, plans.len())?;
-        let client = Client::first(owner, senders, waiter);
+        let client = TreeClient::first(owner, senders, waiter);
         Ok(ReadyTree {
             site,
             sups,

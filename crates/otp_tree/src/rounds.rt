@@ -10,15 +10,15 @@ ghost use Rattle.otp_open.specs.Plans.{HaveBodies, IsOpenFault, plans_of};
 
 use crate::closing::finish_tree;
 use crate::opening::{Opened, Parts};
-use otp_bridge::Subsystem;
 use otp_close::CloseFault;
+use otp_close::report::Report;
 use otp_core::ReplyAnswer;
-use otp_hand::{Client, Hand, TreeNaming};
+use otp_hand::{Hand, TreeClient, TreeNaming};
 use otp_inbox::InboxNaming;
+use otp_job::bridge::Subsystem;
 use otp_job::{Body, Job};
 use otp_open::{TablePlan, Unopened};
 use otp_reason::Note;
-use otp_report::Report;
 use otp_rules::{Call, Reply};
 use otp_run::RunNaming;
 use otp_signals::WordsNaming;
@@ -222,7 +222,7 @@ fn make_round<N, R, J, S, G, L>(
     alloc: Global,
     system: &System<N, J, S>,
     hands: &mut Vec<Hand<N, J, S>>,
-    client: &mut Client<N, Body<J, S>>,
+    client: &mut TreeClient<N, Body<J, S>>,
     gate: &G,
     leader: &mut L,
     round: Round<J, S>,

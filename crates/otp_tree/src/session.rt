@@ -7,7 +7,7 @@ ghost use Rattle.otp_open.specs.Opens.{slots_of};
 ghost use Rattle.otp_open.specs.Plans.{ArePlanned, HaveBodies, IsOpenFault};
 
 use crate::opening::{Opened, Parts};
-use otp_hand::{Client, Hand, TreeNaming};
+use otp_hand::{Hand, TreeClient, TreeNaming};
 use otp_inbox::InboxNaming;
 use otp_job::Body;
 use otp_open::{TablePlan, Unopened, with_spares, without_spares};
@@ -32,7 +32,7 @@ pub trait Session<R, J: Drop, S: Drop>: Drop {
         rt: &R,
         system: System<N, J, S>,
         hands: Vec<Hand<N, J, S>>,
-        client: Client<N, Body<J, S>>,
+        client: TreeClient<N, Body<J, S>>,
     ) -> Self::Output;
 }
 

@@ -12,18 +12,18 @@ ghost use Rattle.otp_open.specs.Plans.{HaveBodies, plans_of};
 use crate::closing::finish_tree;
 use crate::opening::{Opened, Parts};
 use crate::rounds::pool_all;
-use otp_bridge::Subsystem;
 use otp_close::CloseFault;
-use otp_counts::CountsPass;
+use otp_close::report::Report;
 use otp_hand::reading::read_each;
-use otp_hand::{Client, Hand, TreeNaming};
+use otp_hand::{Hand, TreeClient, TreeNaming};
 use otp_inbox::InboxNaming;
+use otp_job::bridge::Subsystem;
 use otp_job::{Body, Job};
 use otp_open::{TablePlan, Unopened};
-use otp_report::Report;
 use otp_rules::CountsNow;
 use otp_run::RunNaming;
 use otp_signals::WordsNaming;
+use otp_signals::counts::CountsPass;
 use otp_sup::PlanNaming;
 use otp_system::{Gate, System};
 use std::alloc::Global;
@@ -132,7 +132,7 @@ fn run_both<N, R, J, S, G>(
     alloc: Global,
     system: &System<N, J, S>,
     hands: &mut Vec<Hand<N, J, S>>,
-    client: &mut Client<N, Body<J, S>>,
+    client: &mut TreeClient<N, Body<J, S>>,
     gate: &G,
     turns: u64,
     passes: &mut [CountsPass],

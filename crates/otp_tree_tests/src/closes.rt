@@ -3,7 +3,7 @@
 
 use crate::fixtures::{MEMORY, got, same};
 use crate::gates::{Clock, Wait as Before};
-use crate::guests::{Kind, Plan, common, crowd};
+use crate::guests::{GuestKind, GuestPlan, common, crowd};
 use crate::lives::{
     Closed, Grove, check_ledger, check_pair, check_strict, check_three, plans_of, ran,
 };
@@ -90,12 +90,12 @@ fn a_tree_is_closed_in_the_midst_of_its_life(rt: HostRuntime) {
 }
 
 // As many supervisors as there may be, each with 256 children, of whom in the root the first are the others.
-fn full_plans(rt: &impl Abort, alloc: Global) -> Vec<Plan> {
+fn full_plans(rt: &impl Abort, alloc: Global) -> Vec<GuestPlan> {
     let shared = common(rt, alloc);
     let mut plans = Vec::new(alloc);
     for table in 0..MAX_TABLES {
         let nested = if table == 0 { MAX_TABLES - 1 } else { 0 };
-        let plan = crowd(rt, alloc, 16, nested, Kind::Steady, &shared);
+        let plan = crowd(rt, alloc, 16, nested, GuestKind::Steady, &shared);
         got(rt, MEMORY, plans.push(plan));
     }
     drop(shared);

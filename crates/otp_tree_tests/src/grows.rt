@@ -2,18 +2,20 @@
 
 use crate::fixtures::{MEMORY, got, same};
 use crate::gates::Still;
-use crate::guests::{Child, Common, Kind, Load, Plan, Worker, again, both, common, one, plan_of};
+use crate::guests::{
+    Child, Common, GuestKind, GuestPlan, Load, Worker, again, both, common, one, plan_of,
+};
 use crate::lives::Closed;
-use otp_bridge::BoxedSubsystem;
 use otp_core::ReplyAnswer;
 use otp_hand::TreeNaming;
+use otp_job::bridge::BoxedSubsystem;
 use otp_job::{Body, TableNo};
 use otp_reason::{Name, Reason};
 use otp_rules::{Call, Reply};
 use otp_spec::{ChildSpec, ChildType, MAX_TABLES, Shutdown};
 use otp_tree::{
-    AddFault, CallRefusal, Client, Hand, NoTable, Session, System, Uncalled, add_tree, close_tree,
-    with_growing_system,
+    AddFault, CallRefusal, Hand, NoTable, Session, System, TreeClient, Uncalled, add_tree,
+    close_tree, with_growing_system,
 };
 use std::alloc::Global;
 use std::process::Abort;
@@ -23,17 +25,17 @@ type Tree<N> = System<N, Worker, BoxedSubsystem>;
 
 type Serving<N> = Hand<N, Worker, BoxedSubsystem>;
 
-type Caller<N> = Client<N, Load>;
+type Caller<N> = TreeClient<N, Load>;
 
 // The plan of a supervisor without children.
-fn childless(rt: &impl Abort, alloc: Global, shared: &Common) -> Vec<Plan> {
+fn childless(rt: &impl Abort, alloc: Global, shared: &Common) -> Vec<GuestPlan> {
     one(rt, alloc, plan_of(rt, alloc, &[], 1, shared))
 }
 
 // The plans of a supervisor of one that has the worker `x`.
-fn pair(rt: &impl Abort, alloc: Global, shared: &Common) -> Vec<Plan> {
+fn pair(rt: &impl Abort, alloc: Global, shared: &Common) -> Vec<GuestPlan> {
     let top = plan_of(rt, alloc, &[Child::Sup("below", 1)], 1, shared);
-    let below = plan_of(rt, alloc, &[Child::Does("x", Kind::Steady)], 1, shared);
+    let below = plan_of(rt, alloc, &[Child::Does("x", GuestKind::Steady)], 1, shared);
     both(rt, alloc, top, below)
 }
 
@@ -42,7 +44,7 @@ fn add<N: TreeNaming, R: Wait + Abort>(
     rt: &R,
     alloc: Global,
     system: &Tree<N>,
-    plans: Vec<Plan>,
+    plans: Vec<GuestPlan>,
     number: usize,
 ) -> TableNo {
     assert!(rt; !plans.is_empty());
@@ -140,7 +142,7 @@ impl<R: Wait + Abort> Session<R, Worker, BoxedSubsystem> for Starting {
         rt: &R,
         system: System<N, Worker, BoxedSubsystem>,
         hands: Vec<Hand<N, Worker, BoxedSubsystem>>,
-        client: Client<N, Body<Worker, BoxedSubsystem>>,
+        client: TreeClient<N, Body<Worker, BoxedSubsystem>>,
     ) -> Closed {
         let (mut hands, mut client) = (hands, client);
         let Starting { shared, alloc } = self;
@@ -203,7 +205,7 @@ impl<R: Wait + Abort> Session<R, Worker, BoxedSubsystem> for Filling {
         rt: &R,
         system: System<N, Worker, BoxedSubsystem>,
         hands: Vec<Hand<N, Worker, BoxedSubsystem>>,
-        client: Client<N, Body<Worker, BoxedSubsystem>>,
+        client: TreeClient<N, Body<Worker, BoxedSubsystem>>,
     ) -> Closed {
         let Filling { shared, alloc } = self;
         same(
@@ -348,7 +350,7 @@ impl<R: Wait + Abort> Session<R, Worker, BoxedSubsystem> for Sharing {
         rt: &R,
         system: System<N, Worker, BoxedSubsystem>,
         hands: Vec<Hand<N, Worker, BoxedSubsystem>>,
-        client: Client<N, Body<Worker, BoxedSubsystem>>,
+        client: TreeClient<N, Body<Worker, BoxedSubsystem>>,
     ) -> Closed {
         let Sharing { one, other, alloc } = self;
         let numbers = add_many(rt, alloc, &system, one);

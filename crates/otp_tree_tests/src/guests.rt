@@ -2,7 +2,7 @@
 ghost use Rattle.std.specs.Prelude.{◌≡◌, ◌≤◌, length};
 
 use crate::fixtures::{MEMORY, got};
-use otp_bridge::BoxedSubsystem;
+use otp_job::bridge::BoxedSubsystem;
 use otp_job::{Body, Job, Told, Turn};
 use otp_reason::{Name, Reason, Started, Text};
 use otp_spec::{ChildSpec, Restart, SupFlags};
@@ -15,7 +15,7 @@ use std::thread;
 
 /// What a worker does.
 #[derive(Clone, Copy, Debug, PartialEq, Eq)]
-pub(crate) enum Kind {
+pub(crate) enum GuestKind {
     /// Works on until its supervisor ends it.
     Steady,
     /// Crashes in the first turn of its first life, and works on then.
@@ -160,15 +160,15 @@ impl Shared {
 /// A worker of a test.
 #[derive(Drop)]
 pub(crate) struct Worker {
-    kind: Kind,
+    kind: GuestKind,
     traps: bool,
     shared: Common,
 }
 
-pub(crate) fn make_worker(rt: &impl Abort, kind: Kind, shared: &Common) -> Worker {
+pub(crate) fn make_worker(rt: &impl Abort, kind: GuestKind, shared: &Common) -> Worker {
     Worker {
         kind,
-        traps: matches!(kind, Kind::Waits | Kind::Stubborn),
+        traps: matches!(kind, GuestKind::Waits | GuestKind::Stubborn),
         shared: again(rt, shared),
     }
 }
@@ -181,7 +181,7 @@ fn failed(why: &[u8]) -> Turn
 
 impl Worker {
     /// A worker, if there is memory.
-    pub(crate) fn try_new(kind: Kind, shared: &Common) -> Option<Worker> {
+    pub(crate) fn try_new(kind: GuestKind, shared: &Common) -> Option<Worker> {
         let shared = Arc::try_clone(shared).ok()?;
         Some(Worker {
             kind,
@@ -191,7 +191,7 @@ impl Worker {
     }
 
     fn crash_once(&mut self) -> Turn {
-        self.kind = Kind::Steady;
+        self.kind = GuestKind::Steady;
         failed(b"crash")
     }
 
@@ -222,7 +222,7 @@ impl Job for Worker {
 
     fn start(&mut self, _number: u64) -> Started {
         let count = match self.kind {
-            Kind::Crashes(true) => &self.shared.apart,
+            GuestKind::Crashes(true) => &self.shared.apart,
             _ => &self.shared.starts,
         };
         count.fetch_add(1, Ordering::SeqCst);
@@ -232,14 +232,14 @@ impl Job for Worker {
     fn turn(&mut self, told: Told) -> Turn {
         self.shared.turns.fetch_add(1, Ordering::SeqCst);
         match self.kind {
-            Kind::Steady => Turn::Again,
-            Kind::CrashesOnce => self.crash_once(),
-            Kind::Crashes(_) => failed(b"crash"),
-            Kind::Fragile => self.crash_if_wanted(),
-            Kind::Waits if told == Told::Shutdown => Turn::End(Reason::Shutdown),
-            Kind::Waits | Kind::Stubborn => Turn::Wait,
-            Kind::Meets(is_first, looks) => self.meet(is_first, looks),
-            Kind::Lingers(looks) => self.shared.linger(looks),
+            GuestKind::Steady => Turn::Again,
+            GuestKind::CrashesOnce => self.crash_once(),
+            GuestKind::Crashes(_) => failed(b"crash"),
+            GuestKind::Fragile => self.crash_if_wanted(),
+            GuestKind::Waits if told == Told::Shutdown => Turn::End(Reason::Shutdown),
+            GuestKind::Waits | GuestKind::Stubborn => Turn::Wait,
+            GuestKind::Meets(is_first, looks) => self.meet(is_first, looks),
+            GuestKind::Lingers(looks) => self.shared.linger(looks),
         }
     }
 }
@@ -247,14 +247,14 @@ impl Job for Worker {
 /// What a call may bring.
 pub(crate) type Load = Body<Worker, BoxedSubsystem>;
 
-pub(crate) type Plan = TablePlan<Worker, BoxedSubsystem>;
+pub(crate) type GuestPlan = TablePlan<Worker, BoxedSubsystem>;
 
 type Draft = TableDraft<Worker, BoxedSubsystem>;
 
 /// A child of a plan: a worker, or the supervisor of this number.
 #[derive(Clone, Copy)]
 pub(crate) enum Child {
-    Does(&'static str, Kind),
+    Does(&'static str, GuestKind),
     Sup(&'static str, usize),
 }
 
@@ -266,10 +266,10 @@ fn named(rt: &impl Abort, id: &[u8]) -> Name {
 }
 
 // A worker. One that meets another isn't started again.
-fn add_worker(rt: &impl Abort, draft: &mut Draft, id: &[u8], kind: Kind, shared: &Common) {
+fn add_worker(rt: &impl Abort, draft: &mut Draft, id: &[u8], kind: GuestKind, shared: &Common) {
     let id = named(rt, id);
     let mut spec = ChildSpec::new(id, id);
-    if matches!(kind, Kind::Meets(..)) {
+    if matches!(kind, GuestKind::Meets(..)) {
         spec.restart = Restart::Temporary;
     }
     let worker = make_worker(rt, kind, shared);
@@ -288,7 +288,7 @@ fn add(rt: &impl Abort, draft: &mut Draft, child: Child, shared: &Common) {
     }
 }
 
-fn finished(rt: &impl Abort, draft: Draft, intensity: u64) -> Plan {
+fn finished(rt: &impl Abort, draft: Draft, intensity: u64) -> GuestPlan {
     let flags = SupFlags {
         intensity,
         ..SupFlags::default()
@@ -303,7 +303,7 @@ pub(crate) fn plan_of(
     children: &[Child],
     intensity: u64,
     shared: &Common,
-) -> Plan {
+) -> GuestPlan {
     let mut draft = TableDraft::new(alloc);
     for child in children {
         add(rt, &mut draft, *child, shared);
@@ -320,9 +320,9 @@ pub(crate) fn crowd(
     alloc: Global,
     letters: usize,
     nested: usize,
-    kind: Kind,
+    kind: GuestKind,
     shared: &Common,
-) -> Plan {
+) -> GuestPlan {
     let mut draft = TableDraft::new(alloc);
     for high in LETTERS.iter().take(letters) {
         for low in &LETTERS {
@@ -338,14 +338,19 @@ pub(crate) fn crowd(
 }
 
 /// The plans of a tree of one supervisor.
-pub(crate) fn one(rt: &impl Abort, alloc: Global, root: Plan) -> Vec<Plan> {
+pub(crate) fn one(rt: &impl Abort, alloc: Global, root: GuestPlan) -> Vec<GuestPlan> {
     let mut plans = Vec::new(alloc);
     got(rt, MEMORY, plans.push(root));
     plans
 }
 
 /// The plans of a tree of two supervisors.
-pub(crate) fn both(rt: &impl Abort, alloc: Global, root: Plan, sub: Plan) -> Vec<Plan> {
+pub(crate) fn both(
+    rt: &impl Abort,
+    alloc: Global,
+    root: GuestPlan,
+    sub: GuestPlan,
+) -> Vec<GuestPlan> {
     let mut plans = one(rt, alloc, root);
     got(rt, MEMORY, plans.push(sub));
     plans

@@ -6,11 +6,12 @@ ghost use Rattle.otp_spec.specs.declared.limits.TheConstants.{MAX_TABLES};
 use crate::fixtures::{MEMORY, got, same};
 use crate::gates::{Clock, Wait as Before};
 use crate::guests::{
-    Child, Common, Kind, Plan, TOO_OFTEN, Worker, again, both, common, crowd, one, plan_of,
+    Child, Common, GuestKind, GuestPlan, TOO_OFTEN, Worker, again, both, common, crowd, one,
+    plan_of,
 };
 use crate::openings::{Back, sizes_of};
 use crate::script::{Question, Script, Seen, Step};
-use otp_bridge::BoxedSubsystem;
+use otp_job::bridge::BoxedSubsystem;
 use otp_reason::Reason;
 use otp_rules::{Call, Cause, Item};
 use otp_spec::MAX_TABLES;
@@ -48,7 +49,7 @@ pub(crate) enum Grove {
     /// The root has `sub`, which bears no restart and has the worker `x`, which crashes once.
     Strict,
     /// The root has eight supervisors, with a worker of this kind each.
-    Wide(Kind),
+    Wide(GuestKind),
     /// One supervisor of a worker whose turns last for so many looks.
     Lingering(u64),
 }
@@ -64,7 +65,7 @@ fn nested(
     sub: &[Child],
     intensity: (u64, u64),
     shared: &Common,
-) -> Vec<Plan> {
+) -> Vec<GuestPlan> {
     let root = plan_of(rt, alloc, root, intensity.0, shared);
     let sub = plan_of(rt, alloc, sub, intensity.1, shared);
     both(rt, alloc, root, sub)
@@ -73,22 +74,22 @@ fn nested(
 const SUB: [Child; 1] = [Child::Sup("sub", 1)];
 
 const GUESTS: [Child; 3] = [
-    Child::Does("meek", Kind::Waits),
-    Child::Does("stubborn", Kind::Stubborn),
-    Child::Does("fragile", Kind::Fragile),
+    Child::Does("meek", GuestKind::Waits),
+    Child::Does("stubborn", GuestKind::Stubborn),
+    Child::Does("fragile", GuestKind::Fragile),
 ];
 
 const THREE: [Child; 3] = [
-    Child::Does("a", Kind::Steady),
-    Child::Does("b", Kind::Steady),
-    Child::Does("c", Kind::Steady),
+    Child::Does("a", GuestKind::Steady),
+    Child::Does("b", GuestKind::Steady),
+    Child::Does("c", GuestKind::Steady),
 ];
 
-const PAIR: [Child; 2] = [Child::Does("a", Kind::Steady), Child::Sup("sub", 1)];
+const PAIR: [Child; 2] = [Child::Does("a", GuestKind::Steady), Child::Sup("sub", 1)];
 
 const BELOW: [Child; 2] = [
-    Child::Does("b", Kind::Steady),
-    Child::Does("c", Kind::CrashesOnce),
+    Child::Does("b", GuestKind::Steady),
+    Child::Does("c", GuestKind::CrashesOnce),
 ];
 
 const WIDE: [Child; 8] = [
@@ -102,7 +103,7 @@ const WIDE: [Child; 8] = [
     Child::Sup("h", 8),
 ];
 
-fn wide(rt: &impl Abort, alloc: Global, kind: Kind, shared: &Common) -> Vec<Plan> {
+fn wide(rt: &impl Abort, alloc: Global, kind: GuestKind, shared: &Common) -> Vec<GuestPlan> {
     let mut plans = single(rt, alloc, &WIDE, shared);
     let one = [Child::Does("x", kind)];
     for _ in 0..WIDE.len() {
@@ -113,13 +114,13 @@ fn wide(rt: &impl Abort, alloc: Global, kind: Kind, shared: &Common) -> Vec<Plan
 }
 
 // `sub` bears no restart.
-fn strict(rt: &impl Abort, alloc: Global, kind: Kind, shared: &Common) -> Vec<Plan> {
+fn strict(rt: &impl Abort, alloc: Global, kind: GuestKind, shared: &Common) -> Vec<GuestPlan> {
     let sub = [Child::Does("x", kind)];
     nested(rt, alloc, &SUB, &sub, (1, 0), shared)
 }
 
 // Of a tree of one supervisor.
-fn single(rt: &impl Abort, alloc: Global, children: &[Child], shared: &Common) -> Vec<Plan> {
+fn single(rt: &impl Abort, alloc: Global, children: &[Child], shared: &Common) -> Vec<GuestPlan> {
     one(rt, alloc, plan_of(rt, alloc, children, 1, shared))
 }
 
@@ -129,40 +130,45 @@ fn storm(
     of_root: bool,
     intensity: u64,
     shared: &Common,
-) -> Vec<Plan> {
+) -> Vec<GuestPlan> {
     let kind = if of_root {
-        Kind::Crashes(false)
+        GuestKind::Crashes(false)
     } else {
-        Kind::Steady
+        GuestKind::Steady
     };
     let root = [Child::Does("a", kind), Child::Sup("sub", 1)];
-    let sub = [Child::Does("b", Kind::Crashes(true))];
+    let sub = [Child::Does("b", GuestKind::Crashes(true))];
     nested(rt, alloc, &root, &sub, (1_000, intensity), shared)
 }
 
 /// Its plans.
-pub(crate) fn plans_of(rt: &impl Abort, alloc: Global, grove: Grove, shared: &Common) -> Vec<Plan> {
+pub(crate) fn plans_of(
+    rt: &impl Abort,
+    alloc: Global,
+    grove: Grove,
+    shared: &Common,
+) -> Vec<GuestPlan> {
     match grove {
         Grove::Pair => nested(rt, alloc, &PAIR, &BELOW, (1, 1), shared),
         Grove::Three => single(rt, alloc, &THREE, shared),
-        Grove::Fragile => strict(rt, alloc, Kind::Fragile, shared),
-        Grove::Strict => strict(rt, alloc, Kind::CrashesOnce, shared),
+        Grove::Fragile => strict(rt, alloc, GuestKind::Fragile, shared),
+        Grove::Strict => strict(rt, alloc, GuestKind::CrashesOnce, shared),
         Grove::Wide(kind) => wide(rt, alloc, kind, shared),
         Grove::Lingering(looks) => {
-            let one = [Child::Does("a", Kind::Lingers(looks))];
+            let one = [Child::Does("a", GuestKind::Lingers(looks))];
             single(rt, alloc, &one, shared)
         }
         Grove::Guests => nested(rt, alloc, &SUB, &GUESTS, (1, 1), shared),
         Grove::Waiters => {
             let root = plan_of(rt, alloc, &SUB, 1, shared);
-            let sub = crowd(rt, alloc, 4, 0, Kind::Waits, shared);
+            let sub = crowd(rt, alloc, 4, 0, GuestKind::Waits, shared);
             both(rt, alloc, root, sub)
         }
         Grove::Storm(of_root, intensity) => storm(rt, alloc, of_root, intensity, shared),
         Grove::Meeting(looks) => {
             let both = [
-                Child::Does("a", Kind::Meets(true, looks)),
-                Child::Does("b", Kind::Meets(false, looks)),
+                Child::Does("a", GuestKind::Meets(true, looks)),
+                Child::Does("b", GuestKind::Meets(false, looks)),
             ];
             single(rt, alloc, &both, shared)
         }
@@ -170,7 +176,7 @@ pub(crate) fn plans_of(rt: &impl Abort, alloc: Global, grove: Grove, shared: &Co
 }
 
 /// A tree of so many supervisors can be served by so many hands.
-pub(crate) fn may_run(rt: &impl Abort, plans: &[Plan], hands: usize)
+pub(crate) fn may_run(rt: &impl Abort, plans: &[GuestPlan], hands: usize)
     ensures tables { length plans.now ≤ MAX_TABLES }
     ensures some { 0 < hands }
     ensures few { hands ≤ all_parts }
@@ -186,7 +192,7 @@ const ROUNDS: u64 = 1_000_000;
 pub(crate) fn led<R: Threads + Wait + Abort + Sync>(
     rt: &R,
     alloc: Global,
-    plans: Vec<Plan>,
+    plans: Vec<GuestPlan>,
     hands: usize,
     clock: &Clock,
     script: Script,
@@ -199,7 +205,7 @@ pub(crate) fn led<R: Threads + Wait + Abort + Sync>(
 pub(crate) fn ran<R: Threads + Wait + Abort + Sync>(
     rt: &R,
     alloc: Global,
-    plans: Vec<Plan>,
+    plans: Vec<GuestPlan>,
     hands: usize,
     clock: &Clock,
     turns: u64,
@@ -377,7 +383,7 @@ fn back_of(rt: &impl Abort, led: LedSo) -> Back {
 }
 
 // The last supervisor loses the last of its bodies.
-fn lose_a_body(plans: &mut Vec<Plan>) {
+fn lose_a_body(plans: &mut Vec<GuestPlan>) {
     if let Some(plan) = plans.last_mut() {
         drop(plan.bodies.pop());
     }
@@ -601,7 +607,7 @@ fn jobs_that_wait_take_no_turns_until_they_are_told(rt: HostRuntime) {
 // Nine supervisors of a hand rest, while eight workers want turns. One crashes, and its supervisor has the next turn: no worker has
 // one before. Rounds are of one turn.
 const CALLED: Life = Life {
-    grove: Grove::Wide(Kind::Fragile),
+    grove: Grove::Wide(GuestKind::Fragile),
     turns: 1,
     steps: &[
         Step::Up,
@@ -627,7 +633,7 @@ const CALLED: Life = Life {
 
 // All of them rest, and their workers wait. While they are stopped each turn of the hand finds something to do.
 const AT_LEISURE: Life = Life {
-    grove: Grove::Wide(Kind::Waits),
+    grove: Grove::Wide(GuestKind::Waits),
     turns: 1,
     steps: &[
         Step::Up,

@@ -2,11 +2,11 @@
 ghost use Rattle.std.specs.Prelude.{◌≡◌};
 
 use crate::fixtures::{MEMORY, got, same};
+use otp_hand::waiting::looks::Looks;
+use otp_hand::waiting::{Around, Posted, Rested, Resting, Waiting};
+use otp_job::wake::{Bells, WakeWords};
 use otp_job::{Body, Process};
 use otp_signals::{OpenWords, Signal, Viewer, Words, WordsNaming};
-use otp_waiting::looks::Looks;
-use otp_waiting::{Around, Posted, Rested, Resting, Waiting};
-use otp_wake::{Bells, Post};
 use std::alloc::Global;
 use std::marker::Brand;
 use std::process::Abort;
@@ -32,15 +32,15 @@ fn process_in(rt: &impl Abort, alloc: Global, slot: usize, number: u64) -> Proce
 struct Watch<N: WordsNaming> {
     words: Words<N>,
     viewer: Viewer<N>,
-    post: Arc<Post>,
+    post: Arc<WakeWords>,
     around: Around,
     waiting: Vec<Process<u64, u64>>,
 }
 
 // A post for so many slots, which no thread waits at.
-fn post_of(rt: &impl Abort, alloc: Global) -> Arc<Post> {
+fn post_of(rt: &impl Abort, alloc: Global) -> Arc<WakeWords> {
     let bells = got(rt, MEMORY, Arc::new(alloc, Bells::new()));
-    let post = got(rt, MEMORY, Post::open(alloc, COUNT, &bells));
+    let post = got(rt, MEMORY, WakeWords::open(alloc, COUNT, &bells));
     drop(bells);
     got(rt, MEMORY, Arc::new(alloc, post))
 }
@@ -138,6 +138,27 @@ impl<N: WordsNaming> Watch<N> {
         }
     }
 
+    // All are woken, and stay so. Where four are looked at in a turn each is found in its turn, and none twice before. Where one of the
+    // newest is found first, each of the others is found in a look after it.
+    fn finds_each_of_all(&mut self, rt: &impl Abort) {
+        for place in 0..COUNT {
+            self.post.wake(place);
+        }
+        let mut quiet = Looks::new(4);
+        for place in 0..COUNT {
+            same(rt, "the next", self.find(&mut quiet), Some(place));
+        }
+        let mut alert = Looks::new(0);
+        for place in 0..COUNT.saturating_sub(NEWEST) {
+            alert.notice(COUNT);
+            same(rt, "the newest", self.find(&mut alert), Some(COUNT - 1));
+            same(rt, "one before", self.find(&mut alert), Some(place));
+        }
+        for place in 0..COUNT {
+            self.post.take(place);
+        }
+    }
+
     // Each is woken in turn, the first of them first: it is taken out, and none of the others.
     fn takes_each(&mut self, rt: &impl Abort, alloc: Global, is_aside: bool) {
         let mut waiting = few_waiting(rt, alloc, is_aside);
@@ -193,6 +214,7 @@ fn looks_in<N: WordsNaming, R: Abort>(rt: &R, alloc: Global, opened: OpenWords)
     };
     watch.finds_each(rt);
     watch.finds_sought(rt);
+    watch.finds_each_of_all(rt);
     watch.takes_each(rt, alloc, false);
     watch.takes_each(rt, alloc, true);
     watch.finds_told(rt, alloc);
@@ -205,24 +227,55 @@ fn each_that_waits_is_looked_at(rt: HostRuntime) {
     looks_in::<Brand, _>(&rt, rt.alloc(), opened);
 }
 
+// The process of this supervisor, which waits until this deadline.
+fn rested_at(rt: &impl Abort, alloc: Global, table: usize, due: Option<u64>) -> Rested<u64, u64> {
+    Rested {
+        process: process_in(rt, alloc, table, 1),
+        table,
+        told: Signal::None,
+        due,
+    }
+}
+
 // Of five supervisors that rest two are looked at in a turn, and after the last the first again. They rest until the least of
 // their deadlines.
 #[test]
 fn supervisors_that_rest_are_looked_at_in_turn(rt: HostRuntime) {
     let mut resting: Resting<u64, u64> = Resting::new(rt.alloc());
     for (table, due) in [None, Some(7), Some(5), None, Some(9)].iter().enumerate() {
-        let rested = Rested {
-            process: process_in(&rt, rt.alloc(), table, 1),
-            table,
-            told: Signal::None,
-            due: *due,
-        };
+        let rested = rested_at(&rt, rt.alloc(), table, *due);
         assert!(rt; resting.keep(rested).is_none());
     }
     for places in [(0, 2), (2, 4), (4, 5), (0, 2)] {
         same(&rt, "the places", resting.next_places(), places);
     }
     same(&rt, "the deadline", resting.next_due(), Some(5));
+    drop(resting);
+}
+
+// Something has come for five supervisors all the time. Two are looked at in a turn, and the first of them has it: so each has one in five.
+#[test]
+fn supervisors_that_rest_have_turns_in_turn(rt: HostRuntime) {
+    let mut resting: Resting<u64, u64> = Resting::new(rt.alloc());
+    for table in 0..5usize {
+        assert!(rt;
+            resting
+                .keep(rested_at(&rt, rt.alloc(), table, None))
+                .is_none()
+        );
+    }
+    let mut turns: [u64; 5] = [0; 5];
+    for _ in 0..50 {
+        let (from, to) = resting.next_places();
+        assert!(rt; from < to);
+        let rested = resting.take_at(from);
+        assert!(rt; rested.table < 5);
+        turns[rested.table] = turns[rested.table].saturating_add(1);
+        assert!(rt; resting.keep(rested).is_none());
+    }
+    for of_one in turns {
+        assert!(rt; of_one >= 5);
+    }
     drop(resting);
 }
 

@@ -2,11 +2,11 @@
 
 use crate::fixtures::{got, same};
 use crate::gates::{Clock, Wait as Before};
-use crate::guests::{Load, Plan, Worker, again, common};
+use crate::guests::{GuestPlan, Load, Worker, again, common};
 use crate::lives::{Grove, may_run, plans_of};
-use otp_bridge::BoxedSubsystem;
+use otp_job::bridge::BoxedSubsystem;
 use otp_tree::{
-    Client, Hand, RunFault, Session, System, SystemFault, TreeNaming, Unopened, run_tree,
+    Hand, RunFault, Session, System, SystemFault, TreeClient, TreeNaming, Unopened, run_tree,
     with_growing_system,
 };
 use std::alloc::Global;
@@ -18,11 +18,11 @@ use std::thread::Threads;
 pub(crate) type Back = Unopened<Worker, BoxedSubsystem>;
 
 /// How many plans there are, and how many bodies the first two of them have.
-pub(crate) fn sizes_of(plans: &[Plan]) -> (usize, usize, usize) {
+pub(crate) fn sizes_of(plans: &[GuestPlan]) -> (usize, usize, usize) {
     (plans.len(), bodies_at(plans, 0), bodies_at(plans, 1))
 }
 
-fn bodies_at(plans: &[Plan], place: usize) -> usize {
+fn bodies_at(plans: &[GuestPlan], place: usize) -> usize {
     match plans.get(place) {
         Some(plan) => plan.bodies.len(),
         None => 0,
@@ -30,7 +30,7 @@ fn bodies_at(plans: &[Plan], place: usize) -> usize {
 }
 
 /// The plans of a pair that wasn't opened: memory was refused, and both supervisors have all their bodies.
-pub(crate) fn plans_back(rt: &impl Abort, back: Back) -> Vec<Plan> {
+pub(crate) fn plans_back(rt: &impl Abort, back: Back) -> Vec<GuestPlan> {
     let Unopened { fault, plans } = back;
     same(rt, "why it was refused", fault, SystemFault::OutOfMemory);
     let sizes = sizes_of(plans.as_slice());
@@ -50,7 +50,7 @@ impl<R> Session<R, Worker, BoxedSubsystem> for Leaving {
         _rt: &R,
         system: System<N, Worker, BoxedSubsystem>,
         hands: Vec<Hand<N, Worker, BoxedSubsystem>>,
-        client: Client<N, Load>,
+        client: TreeClient<N, Load>,
     ) -> usize {
         let tables = system.tables();
         drop(hands);
@@ -61,7 +61,11 @@ impl<R> Session<R, Worker, BoxedSubsystem> for Leaving {
 }
 
 // Opens a tree with more places than plans, and lets it go.
-fn open_growing<R: Wait + Abort>(rt: &R, alloc: Global, plans: Vec<Plan>) -> Result<usize, Back> {
+fn open_growing<R: Wait + Abort>(
+    rt: &R,
+    alloc: Global,
+    plans: Vec<GuestPlan>,
+) -> Result<usize, Back> {
     assert!(rt; plans.len() <= 5);
     with_growing_system(rt, alloc, plans, 5, 2, Leaving)
 }
@@ -70,9 +74,9 @@ fn open_growing<R: Wait + Abort>(rt: &R, alloc: Global, plans: Vec<Plan>) -> Res
 fn run_shortly<R: Threads + Wait + Abort + Sync>(
     rt: &R,
     alloc: Global,
-    plans: Vec<Plan>,
+    plans: Vec<GuestPlan>,
     clock: &Clock,
-) -> Option<Vec<Plan>> {
+) -> Option<Vec<GuestPlan>> {
     may_run(rt, plans.as_slice(), 1);
     match run_tree(rt, alloc, plans, 1, clock, 1) {
         Ok(report) => {

@@ -2,8 +2,8 @@
 ghost use Rattle.std.specs.Prelude.{◌≡◌};
 
 use crate::fixtures::{MEMORY, got};
-use crate::guests::{Common, Kind, Load, Worker};
-use otp_bridge::BoxedSubsystem;
+use crate::guests::{Common, GuestKind, Load, Worker};
+use otp_job::bridge::BoxedSubsystem;
 use otp_job::{Body, TableNo};
 use otp_reason::{Name, Note, Reason};
 use otp_rules::{Call, CallFault, Reply};
@@ -244,7 +244,7 @@ impl Script {
             Question::Restart(id) => (Call::RestartChild(Name::new(id.as_bytes())?), None),
             Question::Add(id) => {
                 let id = Name::new(id.as_bytes())?;
-                let worker = Worker::try_new(Kind::Fragile, &self.shared)?;
+                let worker = Worker::try_new(GuestKind::Fragile, &self.shared)?;
                 (
                     Call::StartChild(ChildSpec::new(id, id)),
                     Some(Body::Worker(worker)),

@@ -2,15 +2,15 @@
 
 use crate::fixtures::{MEMORY, got, same};
 use crate::gates::Still;
-use crate::guests::{Common, Plan, Worker, again, common};
+use crate::guests::{Common, GuestPlan, Worker, again, common};
 use crate::lives::{Closed, Grove, check_pair, check_strict, plans_of};
 use crate::openings::{Back, plans_back};
-use otp_bridge::BoxedSubsystem;
 use otp_job::Body;
+use otp_job::bridge::BoxedSubsystem;
 use otp_reason::{Note, Reason};
-use otp_rules::CountsNow;
+use otp_rules::{Call, CountsNow};
 use otp_tree::{
-    Client, CloseFault, Hand, Session, System, TreeNaming, Unclosed, close_tree,
+    CloseFault, Hand, Session, System, TreeClient, TreeNaming, Unclosed, close_tree,
     with_growing_system, with_system,
 };
 use std::alloc::Global;
@@ -21,7 +21,7 @@ type Tree<N> = System<N, Worker, BoxedSubsystem>;
 
 type Serving<N> = Hand<N, Worker, BoxedSubsystem>;
 
-type Caller<N> = Client<N, Body<Worker, BoxedSubsystem>>;
+type Caller<N> = TreeClient<N, Body<Worker, BoxedSubsystem>>;
 
 // How many starts of workers the pair has: three, of whom one crashes.
 const STARTS: u64 = 4;
@@ -109,7 +109,7 @@ impl<R: Wait + Abort> Session<R, Worker, BoxedSubsystem> for Closing {
         rt: &R,
         system: System<N, Worker, BoxedSubsystem>,
         hands: Vec<Hand<N, Worker, BoxedSubsystem>>,
-        client: Client<N, Body<Worker, BoxedSubsystem>>,
+        client: TreeClient<N, Body<Worker, BoxedSubsystem>>,
     ) -> Closed {
         let (mut hands, mut client) = (hands, client);
         let Closing {
@@ -182,7 +182,7 @@ fn close_once<N: TreeNaming, R: Wait>(
 fn close_whole<R: Wait + Abort>(
     rt: &R,
     alloc: Global,
-    plans: Vec<Plan>,
+    plans: Vec<GuestPlan>,
     shared: &Common,
 ) -> Result<Closed, Back> {
     assert!(rt; plans.len() <= 64);
@@ -354,11 +354,36 @@ fn search_again<N: TreeNaming, R: Wait + Abort>(
     same(rt, "the searches that spared others", spared, 256);
 }
 
-// What one of two hands does while the other serves. The tree is let go as it runs.
+// So many turns a hand makes while the root is called before each of them.
+const CALLED_TURNS: u64 = 170;
+
+// The root is called before each turn of the hand in which it rests: something has come for it each time. All the same one of 17 turns is a
+// worker's at least. From the first of them on more are: two calls wait for the root then, so that it goes through the deque.
+fn call_along<N: TreeNaming, R: Wait + Abort>(
+    rt: &R,
+    alloc: Global,
+    system: &Tree<N>,
+    serving: &mut Serving<N>,
+    client: &mut Caller<N>,
+    shared: &Common,
+) {
+    system.serve(rt, serving, &mut Still, 1000);
+    let before = shared.turns();
+    for _ in 0..CALLED_TURNS {
+        let called = system.submit(rt, alloc, client, 0, Call::CountChildren, None);
+        drop(got(rt, "the call was not sent", called));
+        system.turn(rt, serving, 0);
+    }
+    let of_workers = shared.turns().saturating_sub(before);
+    assert!(rt; of_workers >= CALLED_TURNS / 17 && of_workers < CALLED_TURNS);
+}
+
+// What one of two hands, or a caller, does while the other serves. The tree is let go as it runs.
 #[derive(Drop)]
 enum Beside {
     Counts,
     Searches,
+    Calls(Global, Common),
 }
 
 impl<R: Wait + Abort> Session<R, Worker, BoxedSubsystem> for Beside {
@@ -369,14 +394,18 @@ impl<R: Wait + Abort> Session<R, Worker, BoxedSubsystem> for Beside {
         rt: &R,
         system: System<N, Worker, BoxedSubsystem>,
         hands: Vec<Hand<N, Worker, BoxedSubsystem>>,
-        client: Client<N, Body<Worker, BoxedSubsystem>>,
+        client: TreeClient<N, Body<Worker, BoxedSubsystem>>,
     ) -> bool {
-        let mut hands = hands;
+        let (mut hands, mut client) = (hands, client);
         let mut other = last_of(rt, &mut hands);
         let mut serving = last_of(rt, &mut hands);
         match self {
             Beside::Counts => count_along(rt, &system, &mut serving, &mut other),
             Beside::Searches => search_again(rt, &system, &mut serving, &mut other),
+            Beside::Calls(alloc, shared) => {
+                call_along(rt, alloc, &system, &mut serving, &mut client, &shared);
+                drop(shared);
+            }
         }
         drop(serving);
         drop(other);
@@ -388,8 +417,7 @@ impl<R: Wait + Abort> Session<R, Worker, BoxedSubsystem> for Beside {
 }
 
 // A pair is served by one hand, and the other does this.
-fn serve_beside<R: Wait + Abort>(rt: &R, alloc: Global, other: Beside) {
-    let shared = common(rt, alloc);
+fn serve_beside<R: Wait + Abort>(rt: &R, alloc: Global, shared: Common, other: Beside) {
     let plans = plans_of(rt, alloc, Grove::Pair, &shared);
     assert!(rt; plans.len() <= 64);
     let served = with_system(rt, alloc, plans, 2, other);
@@ -401,10 +429,17 @@ fn serve_beside<R: Wait + Abort>(rt: &R, alloc: Global, other: Beside) {
 
 #[test]
 fn counts_are_read_while_the_tree_restarts(rt: HostRuntime) {
-    serve_beside(&rt, rt.alloc(), Beside::Counts);
+    serve_beside(&rt, rt.alloc(), common(&rt, rt.alloc()), Beside::Counts);
 }
 
 #[test]
 fn a_hand_that_found_nothing_searches_again_in_time(rt: HostRuntime) {
-    serve_beside(&rt, rt.alloc(), Beside::Searches);
+    serve_beside(&rt, rt.alloc(), common(&rt, rt.alloc()), Beside::Searches);
+}
+
+#[test]
+fn a_supervisor_that_is_called_all_the_time_leaves_turns_to_others(rt: HostRuntime) {
+    let shared = common(&rt, rt.alloc());
+    let other = Beside::Calls(rt.alloc(), again(&rt, &shared));
+    serve_beside(&rt, rt.alloc(), shared, other);
 }

@@ -1,7 +1,7 @@
 // What the threads of a tree carry is Send, and what they share is Sync, also as seen from a crate above.
-use otp_bridge::BoxedSubsystem;
+use otp_job::bridge::BoxedSubsystem;
 use otp_job::{Body, BoxedJob};
-use otp_tree::{Client, Hand, Report, System, TablePlan, TreeNaming};
+use otp_tree::{Hand, Report, System, TablePlan, TreeClient, TreeNaming};
 
 fn is_send<T: Send>(_: &T) {}
 
@@ -9,7 +9,7 @@ fn is_sync<T: Sync>(_: &T) {}
 
 pub fn system_is_shared<N: TreeNaming + Send + Sync>(
     system: &System<N, BoxedJob, BoxedSubsystem>,
-    client: &Client<N, Body<BoxedJob, BoxedSubsystem>>,
+    client: &TreeClient<N, Body<BoxedJob, BoxedSubsystem>>,
 ) {
     is_send(system);
     is_sync(system);

@@ -9,8 +9,8 @@ use Rattle.otp_rules.specs.declared.call.Reply.{Reply}
 use Rattle.otp_rules.specs.declared.event.Effect.{Effect}
 use Rattle.otp_rules.specs.declared.event.Effect.TheVariants as effect
 use Rattle.otp_text.specs.Effects.{effect_line}
-use Rattle.otp_telling.specs.Story.{heading, is_told, line_if, order_text, time_text, told_line, told_lines}
-use Rattle.otp_telling.specs.declared.starts.Started.{Started}
+use Rattle.otp_trial.specs.Story.{heading, is_told, line_if, order_text, time_text, told_line, told_lines}
+use Rattle.otp_trial.specs.declared.story.starts.Started.{Started}
 
 order_same : (path : List ℕ) (starts : List Started) (all kept : List Answered) (e : Effect) → IsKeptIn all kept e
     → order_text path starts e kept ≡ order_text path starts e all

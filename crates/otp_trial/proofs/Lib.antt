@@ -1,5 +1,6 @@
 mod Doings
-pub mod Tellings
+mod Phases
+pub mod Kept
 pub mod Pathings
 pub mod Plantings
-pub mod Kept
+pub mod Tellings

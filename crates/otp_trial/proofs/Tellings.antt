@@ -10,9 +10,9 @@ use Rattle.otp_rules.specs.Step.{step}
 use Rattle.otp_trial.specs.Clocks.{shown}
 use Rattle.otp_trial.specs.Played.{ArePassed, Begins, Happens, IsAt, Lead, Makes, Move, Seated, Stand, Tells, TellsFirst, move_text, seat_after, seat_with, starts_of, state_in, story}
 use Rattle.otp_trial.specs.declared.clock.Clock.{Clock}
-use Rattle.otp_telling.specs.Starts.{started_by, starts_in}
-use Rattle.otp_telling.specs.Story.{event_text}
-use Rattle.otp_telling.specs.declared.starts.Started.{Started}
+use Rattle.otp_trial.specs.Starts.{started_by, starts_in}
+use Rattle.otp_trial.specs.Story.{event_text}
+use Rattle.otp_trial.specs.declared.story.starts.Started.{Started}
 
 -- the state after one event more
 pub pushed : (s : State) (es : List Event) (e : Event) → state_after s (es ++ e ∷ []) ≡ (step (state_after s es) e).state
@@ -117,7 +117,7 @@ tells-event a b place k old new x y here (e, kind, read, is, told) set =
     subst (λ (s : Stand). Tells a s x y) (sym set) (
       record { time = a.time; place = place; seat = old; event = Some e } ∷ [],
       made a place e old new here read is,
-      told ∙ ap (λ (text : List ℕ). x ++ text) (sym (append-nil (event_text old.tells old.path (starts_of old) (state_in old) e))),
+      told ∙ ap (λ (text : List ℕ). x ++ text) (sym (append-nil (event_text old.tells old.path (starts_of old) old.aways (state_in old) e))),
     )
 
 pub begins-event : (a b : Stand) (place : ℕ) (k : Kind) (old new : Seated) (x y : List ℕ) → IsAt a.seats place old
@@ -136,7 +136,7 @@ first-event a b place k old new x y here (e, kind, read, is, told) set =
       [],
       made a place e old new here read is,
       kind,
-      told ∙ ap (λ (text : List ℕ). x ++ text) (sym (append-nil (event_text old.tells old.path (starts_of old) (state_in old) e))),
+      told ∙ ap (λ (text : List ℕ). x ++ text) (sym (append-nil (event_text old.tells old.path (starts_of old) old.aways (state_in old) e))),
     )
 
 -- and what is told after it

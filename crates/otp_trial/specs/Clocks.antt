@@ -1,6 +1,6 @@
 -- What a clock shows (own).
 use Rattle.std.specs.Prelude.{ℕ}
-use Rattle.otp_telling.specs.Strains.{second}
+use Rattle.otp_trial.specs.Strains.{second}
 use Rattle.otp_trial.specs.declared.clock.Clock.{Clock}
 use Rattle.otp_trial.specs.declared.clock.Clock.TheVariants.{Milliseconds, Seconds}
 

@@ -1,12 +1,12 @@
 -- What a supervisor of a trial and the trial itself stand for, and what they keep.
 use Rattle.std.specs.Prelude.{◌≡◌, true}
 use Rattle.otp_rules.specs.Run.{empty_state}
-use Rattle.otp_trial.specs.declared.seat.Seat.TheInside.{Inside}
+use Rattle.otp_trial.specs.declared.seat.TriedSupervisor.TheInside.{Inside}
 use Rattle.otp_trial.specs.Played.{Seated}
-use Rattle.otp_telling.specs.Starts.{started_by}
+use Rattle.otp_trial.specs.Starts.{started_by}
 
 abbrev pub seated_of : Inside → Seated
-seated_of s = record { path = s.path.items; tells = s.tells; base = s.core.base; history = s.core.history; strain = s.strain }
+seated_of s = record { path = s.path.items; tells = s.tells; base = s.core.base; history = s.core.history; strain = s.strain; aways = s.aways.items }
 
 pub record IsSeat (s : Inside) : Type 0 where
   -- it was opened with what it is to be opened with

@@ -24,28 +24,32 @@ use Rattle.otp_script.specs.declared.step.Action.TheVariants as action
 use Rattle.otp_script.specs.declared.step.Child.{Child}
 use Rattle.otp_script.specs.declared.step.Expected.{Expected}
 use Rattle.otp_script.specs.declared.step.Expected.TheVariants as expected
-use Rattle.otp_telling.specs.declared.strain.Strain.{Strain}
-use Rattle.otp_telling.specs.Strains.{strained_by, unstrained}
-use Rattle.otp_world.specs.Finding.{found_for, state_for}
-use Rattle.otp_world.specs.declared.finding.Found.{Found}
-use Rattle.otp_world.specs.declared.finding.Found.TheVariants as found
+use Rattle.otp_trial.specs.declared.story.strain.Strain.{Strain}
+use Rattle.otp_trial.specs.Strains.{strained_by, unstrained}
+use Rattle.otp_trial.specs.Finding.{found_for, state_for}
+use Rattle.otp_trial.specs.declared.processes.finding.Found.{Found}
+use Rattle.otp_trial.specs.declared.processes.finding.Found.TheVariants as found
 use Rattle.otp_trial.specs.Clocks.{shown}
 use Rattle.otp_trial.specs.declared.clock.Clock.{Clock}
 use Rattle.otp_trial.specs.Paths.{paths_of}
+use Rattle.otp_trial.specs.declared.planting.Change.{Change}
 use Rattle.otp_trial.specs.declared.trial.ActionEnd.{ActionEnd}
 use Rattle.otp_trial.specs.declared.trial.ActionEnd.TheVariants as taken
-use Rattle.otp_telling.specs.Starts.{is_of_id, is_start_of, started_by}
-use Rattle.otp_telling.specs.Story.{event_text}
-use Rattle.otp_telling.specs.declared.starts.Started.{Started}
+use Rattle.otp_trial.specs.Aways.{aways_by, turn_of}
+use Rattle.otp_trial.specs.Starts.{is_of_id, is_start_of, started_by}
+use Rattle.otp_trial.specs.Story.{event_text}
+use Rattle.otp_trial.specs.declared.story.away.Away.{Away}
+use Rattle.otp_trial.specs.declared.story.starts.Started.{Started}
 
 -- a supervisor of the tree: what stands in front of the names of its children, as `sub/`, whether all its orders are told or
--- its ends alone, its events since it was last started, and how it bore up over the whole run
+-- its ends alone, its events since it was last started, and over the whole run how it bore up, and which of its children are away
 pub record Seated : Type 0 where
   pub path : List ℕ
   pub tells : Bool
   pub base : State
   pub history : List Event
   pub strain : Strain
+  pub aways : List Away
 
 -- the supervisor after them: nothing else is known of it
 abbrev pub state_in : Seated → State
@@ -57,24 +61,29 @@ starts_of p = started_by p.base p.history
 
 -- a supervisor that was never opened
 abbrev pub unplayed : Bool → List ℕ → SupFlags → List ChildSpec → Seated
-unplayed tells path flags specs = record { path = path; tells = tells; base = empty_state flags specs; history = []; strain = unstrained }
+unplayed tells path flags specs = record { path = path; tells = tells; base = empty_state flags specs; history = []; strain = unstrained; aways = [] }
 
--- the same supervisor as at the beginning of a run: it was never opened
+-- a supervisor as it is at the beginning of a run: it was never opened
 abbrev pub fresh : Seated → Seated
-fresh p = record p { history = []; strain = unstrained }
+fresh p = record p { history = []; strain = unstrained; aways = [] }
 
 -- how it bears up after an event
 abbrev pub strain_with : Event → Seated → Strain
 strain_with e p = strained_by p.base.flags p.strain e.reading e.kind (step (state_in p) e)
 
+-- which of its children are away after an event
+abbrev pub aways_with : Event → Seated → List Away
+aways_with e p = aways_by (turn_of (state_in p).rows e.kind) e.reading p.aways
+
 -- the supervisor after an event
 abbrev pub seat_with : Event → Seated → Seated
-seat_with e p = record p { history = p.history ++ e ∷ []; strain = strain_with e p }
+seat_with e p = record p { history = p.history ++ e ∷ []; strain = strain_with e p; aways = aways_with e p }
 
--- an event of this kind happened to a supervisor at this reading, and the text tells those of its orders that are told
+-- an event of this kind happened to a supervisor at this reading, and the text tells those of its orders that are told, and how long
+-- a child was down that is up by it
 abbrev pub Happens : ℕ → Kind → Seated → Seated → List ℕ → List ℕ → Type 0
 Happens reading k old new before after =
-    (e : Event) × (e.kind ≡ k) × (e.reading ≡ reading) × (new ≡ seat_with e old) × (after ≡ before ++ event_text old.tells old.path (starts_of old) (state_in old) e)
+    (e : Event) × (e.kind ≡ k) × (e.reading ≡ reading) × (new ≡ seat_with e old) × (after ≡ before ++ event_text old.tells old.path (starts_of old) old.aways (state_in old) e)
 
 -- what happens to the supervisor at a place, which stood so, and when: an event, or it is there anew and was never opened
 pub record Move : Type 0 where
@@ -83,7 +92,7 @@ pub record Move : Type 0 where
   pub seat : Seated
   pub event : Option Event
 
--- the supervisor after an event, or anew; how it bore up before stays known
+-- the supervisor after an event, or anew; how it bore up before, and which children are away, stays known
 abbrev pub seat_by : Option Event → Seated → Seated
 seat_by None seat = record seat { history = [] }
 seat_by (Some e) seat = seat_with e seat
@@ -93,9 +102,9 @@ seat_after m = seat_by m.event m.seat
 
 abbrev pub text_of_event : Option Event → Seated → List ℕ
 text_of_event None seat = []
-text_of_event (Some e) seat = event_text seat.tells seat.path (starts_of seat) (state_in seat) e
+text_of_event (Some e) seat = event_text seat.tells seat.path (starts_of seat) seat.aways (state_in seat) e
 
--- the lines of those orders of a move that are told
+-- the lines of those orders of a move that are told, and how long a child was down that is up by it
 unfoldable pub move_text : Move → List ℕ
 move_text m = text_of_event m.event m.seat
 
@@ -139,7 +148,7 @@ pub record Makes (old : Stand) (ms : List Move) (new : Stand) : Type 0 where
   pub clock : new.clock ≡ old.clock
   pub passed : ArePassed old.clock old.time ms new.time
 
--- the same of these moves, in order
+-- what is told of these moves, in order
 abbrev pub story : List Move → List ℕ
 story ms = flat_map move_text ms
 
@@ -153,7 +162,7 @@ abbrev pub Begins : ℕ → Kind → Stand → Stand → Type 0
 Begins place k old new = (seat : Seated) × (e : Event) × (ms : List Move)
     × Makes old (record { time = old.time; place = place; seat = seat; event = Some e } ∷ ms) new × (e.kind ≡ k)
 
--- and the text tells the orders of that event, and then of the moves after it
+-- the first move is such an event, and the text tells its orders, and then those of the moves after it
 abbrev pub TellsFirst : ℕ → Kind → Stand → Stand → List ℕ → List ℕ → Type 0
 TellsFirst place k old new before after = (seat : Seated) × (e : Event) × (ms : List Move)
     × Makes old (record { time = old.time; place = place; seat = seat; event = Some e } ∷ ms) new × (e.kind ≡ k)
@@ -163,14 +172,35 @@ TellsFirst place k old new before after = (seat : Seated) × (e : Event) × (ms 
 abbrev pub has_end_waiting : Seated → ℕ → Bool
 has_end_waiting seat p = is_some (position (is_exit p) (state_in seat).waiting)
 
--- the end of this process is what happens first, unless it waits already; then nothing happens
-unfoldable pub EndsUnless : Bool → ℕ → ℕ → Reason → Stand → ActionEnd → Stand → Type 0
-EndsUnless true place p r old answer new = (answer ≡ taken.EndWaits) × (new ≡ old)
-EndsUnless false place p r old answer new = (answer ≡ taken.Done) × Begins place (kind.Took (item.Note (note.Exit p r))) old new
+-- a child in this state starts as this process
+unfoldable pub is_start : ℕ → RowState → Bool
+is_start p (Starting q _) = q == p
+is_start p Undefined = false
+is_start p (Up _) = false
+is_start p (Asked _ _) = false
+is_start p (Killed _) = false
+is_start p (Restarting _) = false
+
+-- the start of this process was ordered, and isn't answered
+abbrev pub is_starting : Seated → ℕ → Bool
+is_starting seat p = list_any (λ row. is_start p row.state) (state_in seat).rows
+
+-- the end of this process is told; where its start isn't answered, the answer is that it failed
+unfoldable pub EndsBy : Bool → ℕ → ℕ → Reason → Stand → Stand → Type 0
+EndsBy true place p r old new = Begins place (kind.Took (item.Note (note.Failed p r))) old new
+EndsBy false place p r old new = Begins place (kind.Took (item.Note (note.Exit p r))) old new
+
+abbrev pub EndsByAt : ℕ → ℕ → Reason → Stand → Stand → Type 0
+EndsByAt place p r old new = (seat : Seated) → IsAt old.seats place seat → EndsBy (is_starting seat p) place p r old new
+
+-- that is what happens first, unless its end waits already; then nothing happens
+unfoldable pub EndsUnless : Bool → Seated → ℕ → ℕ → Reason → Stand → ActionEnd → Stand → Type 0
+EndsUnless true seat place p r old answer new = (answer ≡ taken.EndWaits) × (new ≡ old)
+EndsUnless false seat place p r old answer new = (answer ≡ taken.Done) × EndsBy (is_starting seat p) place p r old new
 
 -- the end of that process is what happens first; or nothing happens, and the answer says why
 unfoldable pub Ends : ℕ → Reason → Seated → Found → Stand → ActionEnd → Stand → Type 0
-Ends place r seat (found.Process p) old answer new = EndsUnless (has_end_waiting seat p) place p r old answer new
+Ends place r seat (found.Process p) old answer new = EndsUnless (has_end_waiting seat p) seat place p r old answer new
 Ends place r seat found.NoProcess old answer new = (answer ≡ taken.NoProcess) × (new ≡ old)
 Ends place r seat found.NoChild old answer new = (answer ≡ taken.NoChild) × (new ≡ old)
 
@@ -189,7 +219,7 @@ unfoldable pub StopsBy : Option Kind → ℕ → Stand → Stand → Type 0
 StopsBy None place old new = new ≡ old
 StopsBy (Some k) place old new = Begins place k old new
 
--- the same of the supervisor at this place
+-- the supervisor at this place is stopped first, if it can be
 abbrev pub StopsFirst : ℕ → Stand → Stand → Type 0
 StopsFirst place old new = (seat : Seated) → IsAt old.seats place seat → StopsBy (idle_kind (state_in seat) true) place old new
 
@@ -253,6 +283,7 @@ unfoldable pub Acts : Action → ℕ → Seated → Stand → ActionEnd → Stan
 Acts action.Nothing place seat old answer new = (answer ≡ taken.Done) × (new ≡ old)
 Acts (action.Exit c r) place seat old answer new = Ends place r seat (found_for c (state_in seat).rows) old answer new
 Acts (action.Start _ _) place seat old answer new = (answer ≡ end_of_plan old.seats seat) × (new ≡ old)
+Acts (action.Init _ _) place seat old answer new = (answer ≡ end_of_plan old.seats seat) × (new ≡ old)
 Acts (action.Hang c) place seat old answer new = new ≡ old
 Acts (action.Slow c time) place seat old answer new = new ≡ old
 Acts (action.Expect x) place seat old answer new = (answer ≡ end_of_expected x seat) × (new ≡ old)
@@ -277,7 +308,7 @@ EndsAt place r c old answer new = (seat : Seated) → IsAt old.seats place seat 
 
 -- it is this process
 abbrev pub EndsProcessAt : ℕ → ℕ → Reason → Stand → ActionEnd → Stand → Type 0
-EndsProcessAt place p r old answer new = (seat : Seated) → IsAt old.seats place seat → EndsUnless (has_end_waiting seat p) place p r old answer new
+EndsProcessAt place p r old answer new = (seat : Seated) → IsAt old.seats place seat → EndsUnless (has_end_waiting seat p) seat place p r old answer new
 
 -- what stands in front of the names of each one's children
 abbrev pub paths_in : List Seated → List (List ℕ)
@@ -294,7 +325,7 @@ ArePlanted tells (table ∷ tables) (seat ∷ seats) = (seat ≡ unplayed tells 
 abbrev pub AddsTables : Bool → List Table → List Seated → List Seated → Type 0
 AddsTables tells tables old new = (more : List Seated) × (new ≡ old ++ more) × ArePlanted tells tables more
 
--- the same of a tree, of which the root's children have this in front of their names
+-- the supervisors of a tree are put behind the others, and the root's children have this in front of their names
 abbrev pub AddsTree : Bool → List ℕ → Tree → List Seated → List Seated → Type 0
 AddsTree tells path tree old new =
     (more : List Seated) × (new ≡ old ++ unplayed tells path tree.flags tree.specs ∷ more) × ArePlanted tells tree.below more
@@ -303,3 +334,17 @@ AddsTree tells path tree old new =
 -- walk; all are told, or of each its ends alone
 abbrev pub IsPlanted : Bool → Tree → List Seated → Type 0
 IsPlanted tells tree seats = AddsTree tells [] tree [] seats × (paths_in seats ≡ paths_of [] (tables_of tree))
+
+-- a supervisor with another intensity: it was never opened
+abbrev pub with_intensity : ℕ → Seated → Seated
+with_intensity intensity p = unplayed p.tells p.path (record p.base.flags { intensity = intensity }) p.base.specs
+
+-- the one at this place has another intensity now, and the others are as they were
+abbrev pub IsChanged : Change → List Seated → List Seated → Type 0
+IsChanged change old new =
+    (seat : Seated) × IsAt old change.place seat × (new ≡ slice_set old change.place (with_intensity change.intensity seat))
+
+-- the supervisors of a tree, of which none was ever opened, as its file says them, or with another intensity of one of them
+abbrev pub IsPlantedAs : Option Change → Bool → Tree → List Seated → Type 0
+IsPlantedAs None tells tree seats = IsPlanted tells tree seats
+IsPlantedAs (Some change) tells tree seats = (planted : List Seated) × IsPlanted tells tree planted × IsChanged change planted seats

@@ -3,7 +3,7 @@
 ghost use Rattle.std.specs.Prelude.{◌≡◌, ◌≤◌};
 ghost use Rattle.otp_trial.specs.Clocks.{shown};
 
-use otp_telling::strain::second;
+use crate::story::strain::second;
 
 /// By which clock a trial is played.
 #[derive(Clone, Copy, Debug, PartialEq, Eq)]

@@ -7,13 +7,15 @@
 pub mod clock;
 mod next;
 mod planting;
+pub mod processes;
 mod seat;
 pub mod steps;
+pub mod story;
 pub mod trial;
 
+pub use crate::processes::{Hang, Init, PlannedStart, finding, world};
+pub use crate::story::{Course, Started, Strain, starts, strain, telling, time};
 pub use clock::Clock;
-pub use otp_telling::{Course, Started, Strain, starts, strain, telling, time};
-pub use otp_world::{Hang, Plan, finding, world};
-pub use planting::plant_seats;
-pub use seat::Seat;
+pub use planting::{Change, plant_seats};
+pub use seat::TriedSupervisor;
 pub use trial::{ActionEnd, Halt, Trial};

@@ -3,20 +3,28 @@
 ghost use Rattle.std.specs.Prelude.{◌≡◌, ◌++◌, [], ◌∷◌, true, ℕ, IfOk, IfSome, OnOk, Some, codes, map, slice_get};
 ghost use Rattle.otp_reason.specs.Names.{name_bytes};
 ghost use Rattle.otp_trial.specs.Paths.{AddsPaths};
-ghost use Rattle.otp_trial.specs.Played.{AddsTree, IsPlanted, fresh, paths_in, unplayed};
+ghost use Rattle.otp_trial.specs.Played.{AddsTree, IsChanged, IsPlanted, IsPlantedAs, fresh, paths_in, unplayed};
 
-use crate::seat::Seat;
+use crate::seat::TriedSupervisor;
 use crate::trial::Halt;
-use otp_driven::Link;
+use otp_driver::driven::Link;
 use otp_file::{MAX_DEPTH, TreeSpec};
 use otp_reason::Name;
 use otp_spec::{ChildSpec, SupSpec};
 use std::alloc::{AllocError, Global};
 
+/// Another intensity of a supervisor of a tree.
+#[derive(Clone, Copy, Debug, PartialEq, Eq)]
+pub struct Change {
+    /// The place of the supervisor, the root's being 0: the number of its table in the file.
+    pub place: usize,
+    pub intensity: u64,
+}
+
 /// The supervisors of a tree, a parent before its children, and whose child each of them is.
 #[derive(Drop)]
 pub(crate) struct Plants {
-    pub seats: Vec<Seat>,
+    pub seats: Vec<TriedSupervisor>,
     pub links: Vec<Link>,
 }
 
@@ -46,17 +54,17 @@ pub(crate) fn seat_of(
     path: &[u8],
     tells: bool,
     supervisor: &SupSpec,
-) -> Result<Seat, Halt>
+) -> Result<TriedSupervisor, Halt>
     ensures { IfOk result (λ seat. seat ≡ unplayed tells path.now supervisor.now.flags supervisor.now.specs) }
 {
     let mut name = Vec::new(alloc);
     name.extend_from_slice(path)?;
-    Seat::new(alloc, name, tells, supervisor.try_clone(alloc)?)
+    TriedSupervisor::new(alloc, name, tells, supervisor.try_clone(alloc)?)
 }
 
 impl Plants {
     /// Adds a supervisor, and says at which place.
-    fn add(&mut self, seat: Seat, link: Link) -> Result<usize, AllocError>
+    fn add(&mut self, seat: TriedSupervisor, link: Link) -> Result<usize, AllocError>
         ensures { OnOk result (self.new.seats.items ≡ self.old.seats.items ++ seat ∷ []) }
     {
         let place = self.seats.len();
@@ -125,12 +133,46 @@ pub(crate) fn plant(alloc: Global, tree: &TreeSpec, tells: bool) -> Result<Plant
     }
 }
 
+/// The supervisor at this place gets another intensity.
+fn change_seat(alloc: Global, seats: &mut Vec<TriedSupervisor>, change: Change) -> Result<(), Halt>
+    ensures { OnOk result (IsChanged change seats.old.items seats.new.items) }
+{
+    if change.place >= seats.len() {
+        return Err(Halt::OutOfMemory);
+    }
+    let other = seats[change.place].with_intensity(alloc, change.intensity)?;
+    seats[change.place] = other;
+    Ok(())
+}
+
+/// The supervisors of a tree as its file says them, or with another intensity of one of them. All orders are told, or ends alone.
+pub(crate) fn plant_as(
+    alloc: Global,
+    tree: &TreeSpec,
+    tells: bool,
+    change: Option<Change>,
+) -> Result<Plants, Halt>
+    ensures { IfOk result (λ plants. IsPlantedAs change tells tree.now plants.seats.items) }
+{
+    let mut plants = plant(alloc, tree, tells)?;
+    match change {
+        None => Ok(plants),
+        Some(change) => match change_seat(alloc, &mut plants.seats, change) {
+            Ok(()) => Ok(plants),
+            Err(halt) => {
+                drop(plants);
+                Err(halt)
+            }
+        },
+    }
+}
+
 /// The supervisors of a tree, of which none was ever opened: one for each table of the file, by their numbers.
 ///
 /// # Errors
 ///
 /// Where memory is refused.
-pub fn plant_seats(alloc: Global, tree: &TreeSpec) -> Result<Vec<Seat>, Halt>
+pub fn plant_seats(alloc: Global, tree: &TreeSpec) -> Result<Vec<TriedSupervisor>, Halt>
     ensures { IfOk result (λ seats. IsPlanted true tree.now seats.items) }
 {
     let Plants { seats, links: _ } = plant(alloc, tree, true)?;
@@ -138,7 +180,10 @@ pub fn plant_seats(alloc: Global, tree: &TreeSpec) -> Result<Vec<Seat>, Halt>
 }
 
 /// These supervisors as at the beginning of a run.
-pub(crate) fn fresh_seats(alloc: Global, seats: &[Seat]) -> Result<Vec<Seat>, Halt>
+pub(crate) fn fresh_seats(
+    alloc: Global,
+    seats: &[TriedSupervisor],
+) -> Result<Vec<TriedSupervisor>, Halt>
     ensures { IfOk result (λ anew. anew.items ≡ map fresh seats.now) }
 {
     let mut anew = Vec::new(alloc);

@@ -1,34 +1,36 @@
 //! A supervisor of a tree that is tried.
 
 ghost use Rattle.std.specs.Prelude.{◌≡◌, ◌≤◌, [], false, is_some, length, nat_lt, IfOk, OnOk};
+ghost use Rattle.std.specs.List.{list_any};
 ghost use Rattle.otp_core.specs.View.{new_core, state_of};
 ghost use Rattle.otp_rules.specs.Ends.{last_stamps};
 ghost use Rattle.otp_rules.specs.Next.{idle_kind, next_kind};
 ghost use Rattle.otp_rules.specs.Run.{empty_state};
 ghost use Rattle.otp_rules.specs.State.{is_over};
 ghost use Rattle.otp_spec.specs.declared.limits.TheConstants.{MAX_READING};
-ghost use Rattle.otp_telling.specs.Strains.{strained};
-ghost use Rattle.otp_trial.specs.Played.{Happens, end_if_started, end_of_ended, end_of_expected, end_of_restarts, end_of_test, end_of_up, fresh, has_end_waiting, state_in, unplayed};
+ghost use Rattle.otp_trial.specs.Strains.{strained};
+ghost use Rattle.otp_trial.specs.Played.{Happens, end_if_started, end_of_ended, end_of_expected, end_of_restarts, end_of_test, end_of_up, fresh, has_end_waiting, is_start, is_starting, state_in, unplayed, with_intensity};
 
 use crate::planting::seat_of;
+use crate::processes::finding::state_for;
+use crate::story::away::{Away, note_turn, tell_down, turn_of};
+use crate::story::starts::{Started, has_start, put_starts, starts_of};
+use crate::story::strain::Strain;
+use crate::story::telling::{Telling, tell};
 use crate::trial::{ActionEnd, Halt};
 use otp_core::{Core, MAX_EVENTS};
 use otp_rules::{Effect, Kind, Phase};
 use otp_script::Expected;
-use otp_spec::{MAX_READING, SupFlags, SupSpec};
+use otp_spec::{MAX_READING, SupFlags, SupSpec, copy_specs};
 use otp_table::{Row, RowState};
-use otp_telling::starts::{Started, has_start, put_starts, starts_of};
-use otp_telling::strain::Strain;
-use otp_telling::telling::{Scene, tell};
 use otp_text::Printer;
-use otp_world::finding::state_for;
 use std::alloc::Global;
 use std::collections::VecDeque;
 use std::marker::Model;
 
 /// A supervisor with its core: what it is opened with whenever it starts, and what has happened to it since then.
 #[derive(Drop)]
-pub struct Seat {
+pub struct TriedSupervisor {
     /// What stands in front of the names of its children: the ids of the supervisors from the root's child on, each with
     /// a `/` behind it.
     path: Vec<u8>,
@@ -38,13 +40,15 @@ pub struct Seat {
     core: Core,
     /// How it bore up so far, however often it was started anew.
     strain: Strain,
+    /// Since when children of it are without a process, however often it was started anew.
+    aways: Vec<Away>,
     /// The starts that it ordered since its own last start.
     starts: Vec<Started>,
     /// All of them are kept: memory was not refused in the midst of what happened last. Else nothing more happens.
     is_whole: bool,
 }
 
-impl Model for Seat {
+impl Model for TriedSupervisor {
     ghost use Rattle.otp_trial.specs.Played.{Seated};
 
     ghost Value = { Seated };
@@ -63,6 +67,22 @@ fn core_of(alloc: Global, supervisor: &SupSpec) -> Result<Core, Halt>
     Ok(Core::of(alloc, supervisor.try_clone(alloc)?))
 }
 
+/// What a supervisor is opened with, but for another intensity.
+fn with_intensity(alloc: Global, supervisor: &SupSpec, intensity: u64) -> Result<SupSpec, Halt>
+    ensures { IfOk result (λ other. other ≡ record { flags = record supervisor.now.flags { intensity = intensity }; specs = supervisor.now.specs }) }
+{
+    let specs = copy_specs(alloc, supervisor.specs())?;
+    let flags = SupFlags {
+        intensity,
+        ..supervisor.flags()
+    };
+    match SupSpec::check(flags, specs) {
+        Ok(other) => Ok(other),
+        // An intensity that a file may say doesn't decide whether specifications are lawful.
+        Err(_) => Err(Halt::OutOfMemory),
+    }
+}
+
 /// How a supervisor with these flags bears up whose core has done this at an event of this kind at this time.
 fn strain_after(strain: Strain, time: u64, kind: &Kind, flags: SupFlags, core: &Core) -> Strain
     ensures { result ≡ strained strain time kind.now flags (last_stamps (state_of core.now).flags.intensity (state_of core.now).stamps) core.now.effects }
@@ -70,7 +90,7 @@ fn strain_after(strain: Strain, time: u64, kind: &Kind, flags: SupFlags, core: &
     strain.strained(time, kind, &flags, core.kept_restarts(), core.effects())
 }
 
-impl Seat {
+impl TriedSupervisor {
     /// A supervisor that was never opened.
     pub(crate) fn new(
         alloc: Global,
@@ -87,12 +107,13 @@ impl Seat {
                 return Err(halt);
             }
         };
-        Ok(Seat {
+        Ok(TriedSupervisor {
             path,
             tells,
             supervisor,
             core,
             strain: Strain::new(),
+            aways: Vec::new(alloc),
             starts: Vec::new(alloc),
             is_whole: true,
         })
@@ -103,6 +124,16 @@ impl Seat {
         ensures { IfOk result (λ seat. seat ≡ fresh self.now) }
     {
         seat_of(alloc, self.path(), self.tells, &self.supervisor)
+    }
+
+    /// This supervisor with another intensity, as at the beginning of a run.
+    pub(crate) fn with_intensity(&self, alloc: Global, intensity: u64) -> Result<Self, Halt>
+        ensures { IfOk result (λ seat. seat ≡ with_intensity intensity self.now) }
+    {
+        let other = with_intensity(alloc, &self.supervisor, intensity)?;
+        let seat = seat_of(alloc, self.path(), self.tells, &other);
+        drop(other);
+        seat
     }
 
     /// The supervisor is started anew: nothing has happened to it.
@@ -135,17 +166,21 @@ impl Seat {
         if last >= MAX_READING {
             return Err(Halt::HistoryFull);
         }
+        let turn = turn_of(self.core.rows(), &kind);
         self.core.clear_effects();
         let after = self.core.happen_after(MAX_EVENTS, time, &kind, last)?;
         self.is_whole = false;
         let starts = self.starts.as_slice();
-        let scene = Scene {
+        let scene = Telling {
             time,
             path: self.path.as_slice(),
             starts,
             tells: self.tells,
         };
+        let aways = self.aways.as_slice();
+        tell_down(&scene, turn, aways, out)?;
         tell(&scene, &self.core, printer, out)?;
+        note_turn(turn, time, &mut self.aways)?;
         put_starts(self.core.effects(), &mut self.starts)?;
         self.strain = strain_after(
             self.strain,
@@ -253,6 +288,13 @@ impl Seat {
         self.core.has_exit_waiting(process)
     }
 
+    /// Whether the start of this process was ordered, and isn't answered.
+    pub(crate) fn is_starting(&self, process: u64) -> bool
+        ensures { result ≡ is_starting self.now process }
+    {
+        starts_as(self.rows(), process)
+    }
+
     /// Whether children are being stopped or started.
     pub fn has_open_work(&self) -> bool
         ensures { result ≡ is_some (state_in self.now).follows }
@@ -285,6 +327,28 @@ impl Seat {
     pub fn next_deadline(&self) -> Option<u64> {
         self.core.next_deadline()
     }
+}
+
+/// Whether a child in this state starts as this process.
+#[tactic(auto, unfolding(crate::specs::Played::is_start))]
+fn is_start(state: RowState, process: u64) -> bool
+    ensures { result ≡ is_start process state }
+{
+    match state {
+        RowState::Starting(number, _) => number == process,
+        RowState::Undefined
+        | RowState::Up(_)
+        | RowState::Asked(..)
+        | RowState::Killed(_)
+        | RowState::Restarting(_) => false,
+    }
+}
+
+/// Whether one of these children starts as this process.
+fn starts_as(rows: &[Row], process: u64) -> bool
+    ensures { result ≡ list_any (λ row. is_start process row.state) rows.now }
+{
+    rows.iter().any(|row| is_start(row.state, process))
 }
 
 /// A child is there no more: what becomes of what is expected then, if its supervisor has started it.

@@ -2,15 +2,17 @@
 
 ghost use Rattle.std.specs.Prelude.{◌≡◌, ◌≤◌, ◌<◌, IfOk, OnOk, IfSome, length};
 ghost use Rattle.otp_spec.specs.declared.limits.TheConstants.{MAX_READING};
-ghost use Rattle.otp_trial.specs.Played.{Tells};
-ghost use Rattle.otp_trial.specs.Steps.{TellsAt, TellsTimes, TellsWhen, goes_on, knows, means_nobody, number_meant, number_of, time_at, unless_ended, without_process};
+ghost use Rattle.otp_script.specs.Lines.{saying};
+ghost use Rattle.otp_trial.specs.Played.{ActsAt, Tells, is_root_over};
+ghost use Rattle.otp_trial.specs.declared.trial.ActionEnd.{ActionEnd};
+ghost use Rattle.otp_trial.specs.Steps.{DoesDeed, IsMeant, is_by_number, told_end, TellsAt, TellsTimes, TellsWhen, goes_on, knows, means_nobody, number_meant, number_of, time_at, unless_ended, without_process};
 
-use crate::seat::Seat;
+use crate::processes::finding::{is_known, named_in};
+use crate::seat::TriedSupervisor;
 use crate::trial::{ActionEnd, Halt, Trial};
 use otp_reason::Name;
 use otp_script::{Action, Child, Expected, Step, When};
 use otp_spec::MAX_READING;
-use otp_world::finding::{is_known, named_in};
 
 /// What a line came to.
 #[derive(Clone, Copy, Debug, PartialEq, Eq)]
@@ -22,7 +24,7 @@ pub struct Outcome {
 
 /// Whether the supervisor at this place has a child with this id.
 #[tactic(auto, unfolding(crate::specs::Steps::knows, crate::specs::Steps::knows_in))]
-fn knows(seats: &[Seat], place: usize, id: &Name) -> bool
+fn knows(seats: &[TriedSupervisor], place: usize, id: &Name) -> bool
     ensures { result ≡ knows id.now place seats.now }
 {
     if place >= seats.len() {
@@ -64,8 +66,10 @@ fn number_of(child: Child) -> Option<u64>
 }
 
 /// The place of the supervisor that a line means: by its path, or by the number of a process.
+#[tactic(auto, unfolding(crate::specs::Steps::IsMeant, crate::specs::Steps::is_by_number))]
 fn place_of(trial: &Trial, step: Step<'_>) -> Option<usize>
-    ensures { IfSome result (λ place. place < length trial.now.seats) }
+    ensures inside { IfSome result (λ place. place < length trial.now.seats) }
+    ensures meant { IfSome result (IsMeant (is_by_number step.entry.path.now step.entry.action) step.entry.path.now trial.now.seats) }
 {
     match number_meant(step.action) {
         Some(process) if step.path.is_empty() => Some(trial.place_of_process(process)),
@@ -129,10 +133,38 @@ fn without_process(has_ended: bool, action: Action) -> ActionEnd
     }
 }
 
+/// What is told of an action: of one that names a child which isn't there before all else that the root has ended.
+#[tactic(auto, unfolding(crate::specs::Steps::told_end))]
+fn told_end(has_ended: bool, taken: ActionEnd) -> ActionEnd
+    ensures { result ≡ told_end has_ended taken }
+{
+    match taken {
+        ActionEnd::NoChild => unless_ended(has_ended, taken),
+        taken => taken,
+    }
+}
+
+/// What a line says is done at the supervisor at this place, which it means.
+fn act_at(
+    trial: &mut Trial,
+    place: usize,
+    action: Action,
+    out: &mut Vec<u8>,
+) -> Result<ActionEnd, Halt>
+    requires { place < length trial.old.seats }
+    ensures told { OnOk result (Tells trial.old trial.new out.old.items out.new.items) }
+    ensures time { OnOk result (trial.new.time ≡ trial.old.time) }
+    ensures acts { IfOk result (λ end. (known : ActionEnd) × (ActsAt action place trial.old known trial.new × (end ≡ told_end (is_root_over trial.new.seats) known))) }
+{
+    let taken = trial.act(place, action, out)?;
+    Ok(told_end(trial.has_ended(), taken))
+}
+
 /// What a line says is done at the supervisor that it means.
 fn act(trial: &mut Trial, step: Step<'_>, out: &mut Vec<u8>) -> Result<ActionEnd, Halt>
     ensures told { OnOk result (Tells trial.old trial.new out.old.items out.new.items) }
     ensures time { OnOk result (trial.new.time ≡ trial.old.time) }
+    ensures deed { IfOk result (λ end. DoesDeed step.entry.path.now step.entry.action trial.old end trial.new) }
 {
     let Some(place) = place_of(trial, step) else {
         return Ok(unless_ended(trial.has_ended(), ActionEnd::NoSupervisor));
@@ -140,17 +172,13 @@ fn act(trial: &mut Trial, step: Step<'_>, out: &mut Vec<u8>) -> Result<ActionEnd
     if !trial.has_process(place) {
         return Ok(without_process(trial.has_ended(), step.action));
     }
-    let taken = trial.act(place, step.action, out)?;
-    match taken {
-        ActionEnd::NoChild => Ok(unless_ended(trial.has_ended(), taken)),
-        taken => Ok(taken),
-    }
+    act_at(trial, place, step.action, out)
 }
 
 /// The clock goes to this time, and then what a line says is done.
 fn do_at(trial: &mut Trial, time: u64, step: Step<'_>, out: &mut Vec<u8>) -> Result<Outcome, Halt>
     requires { time ≤ MAX_READING }
-    ensures { OnOk result (TellsAt time trial.old trial.new out.old.items out.new.items) }
+    ensures { IfOk result (λ outcome. TellsAt (saying step.entry.when step.entry.times step.entry.path.now step.entry.action) time outcome.taken trial.old trial.new out.old.items out.new.items) }
 {
     trial.go_to(time, out)?;
     let is_unknown = means_nobody(trial, named_in(step.action), place_of(trial, step));
@@ -160,7 +188,7 @@ fn do_at(trial: &mut Trial, time: u64, step: Step<'_>, out: &mut Vec<u8>) -> Res
 
 /// What a line says: the clock goes on, and then it is done, unless its time has gone by.
 fn do_step(trial: &mut Trial, step: Step<'_>, out: &mut Vec<u8>) -> Result<Outcome, Halt>
-    ensures { OnOk result (TellsWhen (time_at trial.old.time step.entry.when) trial.old trial.new out.old.items out.new.items) }
+    ensures { IfOk result (λ outcome. TellsWhen (saying step.entry.when step.entry.times step.entry.path.now step.entry.action) (time_at trial.old.time step.entry.when) outcome.taken trial.old trial.new out.old.items out.new.items) }
 {
     match time_at(trial.time(), step.when) {
         None => Ok(Outcome {
@@ -185,14 +213,14 @@ fn goes_on(taken: ActionEnd, has_ended: bool) -> bool
 /// What a line says, as often as it says. Where the root has ended meanwhile, the rest is left out.
 pub fn do_times(trial: &mut Trial, step: Step<'_>, out: &mut Vec<u8>) -> Result<Outcome, Halt>
     ensures told { OnOk result (Tells trial.old trial.new out.old.items out.new.items) }
-    ensures often { IfOk result (λ outcome. TellsTimes step.entry.when step.entry.times outcome.taken trial.old trial.new out.old.items out.new.items) }
+    ensures often { IfOk result (λ outcome. TellsTimes (saying step.entry.when step.entry.times step.entry.path.now step.entry.action) outcome.taken trial.old trial.new out.old.items out.new.items) }
 {
     do_each(trial, step, out)
 }
 
 /// What a line says, time for time.
 fn do_each(trial: &mut Trial, step: Step<'_>, out: &mut Vec<u8>) -> Result<Outcome, Halt>
-    ensures { IfOk result (λ outcome. TellsTimes step.entry.when step.entry.times outcome.taken trial.old trial.new out.old.items out.new.items) }
+    ensures { IfOk result (λ outcome. TellsTimes (saying step.entry.when step.entry.times step.entry.path.now step.entry.action) outcome.taken trial.old trial.new out.old.items out.new.items) }
 {
     let mut outcome = do_step(trial, step, out)?;
     for done in 1..step.times {

@@ -1,26 +1,27 @@
 //! A tree that is tried.
 
-ghost use Rattle.std.specs.Prelude.{ℕ, List, ◌∷◌, Bool, true, ◌≡◌, ◌<◌, ◌≤◌, OnOk, IfOk, IfSome, length, map, max};
+ghost use Rattle.std.specs.Prelude.{ℕ, List, ◌∷◌, Bool, true, ◌≡◌, ◌<◌, ◌≤◌, OnOk, IfOk, IfSome, length, map, max, position};
 ghost use Rattle.otp_reason.specs.declared.note.Note.TheVariants as note;
 ghost use Rattle.otp_rules.specs.declared.event.Item.TheVariants as item;
 ghost use Rattle.otp_rules.specs.declared.event.Kind.TheVariants as kind;
 ghost use Rattle.otp_spec.specs.declared.limits.TheConstants.{MAX_READING};
-ghost use Rattle.otp_trial.specs.Played.{ActsAt, Begins, EndsAt, EndsProcessAt, ExpectsAt, IsPlanted, PlansAt, Seated, Stops, StopsFirst, Tells, TellsFirst, at_start, fresh, is_root_over, now_of};
+ghost use Rattle.otp_trial.specs.Played.{ActsAt, Begins, EndsAt, EndsByAt, EndsProcessAt, ExpectsAt, IsPlanted, IsPlantedAs, PlansAt, Seated, Stops, StopsFirst, Tells, TellsFirst, at_start, fresh, is_root_over, now_of};
+ghost use Rattle.otp_trial.specs.Steps.{has_path};
 ghost use Rattle.otp_trial.specs.Taken.{taken_text};
 ghost use Rattle.otp_trial.specs.declared.trial.ActionEnd.TheVariants.{Done};
 
 use crate::clock::Clock;
 use crate::next::{next_of_seats, place_of_process};
-use crate::planting::{fresh_seats, plant};
-use crate::seat::Seat;
+use crate::planting::{Change, fresh_seats, plant_as};
+use crate::processes::finding::{Found, found_for, is_known};
+use crate::processes::{Deed, Hang, Init, PlannedStart, What, World};
+use crate::seat::TriedSupervisor;
 use otp_core::EventFault;
 use otp_file::TreeSpec;
 use otp_reason::{Name, Note, Reason};
 use otp_rules::{Call, Item, Kind};
-use otp_script::{Action, Child, Expected, NextStart};
+use otp_script::{Action, Child, Expected, NextStart, is_text};
 use otp_text::Printer;
-use otp_world::finding::{Found, found_for, is_known};
-use otp_world::{Deed, Hang, Plan, What, World};
 use std::alloc::{AllocError, Global};
 use std::marker::Model;
 
@@ -111,14 +112,14 @@ impl ActionEnd {
     }
 }
 
-/// A tree of supervisors in a world whose processes do what a script says, and else what is best: each start succeeds, and
-/// each process that is asked to shut down ends. A supervisor below the root is a child of another: its start opens its
+/// A tree of supervisors in a world whose processes do what a script says, and else what is best: each start succeeds at once,
+/// and each process that is asked to shut down ends. A supervisor below the root is a child of another: its start opens its
 /// core, and its end is told to its parent. The cores decide, as one does for `sim`; nothing is decided twice.
 #[derive(Drop)]
 pub struct Trial {
     alloc: Global,
     /// The root first, and each before its children.
-    seats: Vec<Seat>,
+    seats: Vec<TriedSupervisor>,
     printer: Printer,
     world: World,
     clock: Clock,
@@ -160,7 +161,27 @@ impl Trial {
         ensures told { IfOk result (λ trial. (before : List Seated) × IsPlanted tells tree.now before × TellsFirst 0 (kind.Opened 0) (at_start clock before) trial out.old.items out.new.items) }
         ensures time { IfOk result (λ trial. trial.time ≡ 0) }
     {
-        let plants = plant(alloc, tree, tells)?;
+        Self::open_as(alloc, tree, tells, clock, None, out)
+    }
+
+    /// Does as [`Self::open`], where the tree is as its file says it, or one of its supervisors has another intensity.
+    ///
+    /// # Errors
+    ///
+    /// Where memory is refused; so too where there is no such supervisor, or none may have that intensity.
+    pub fn open_as(
+        alloc: Global,
+        tree: &TreeSpec,
+        tells: bool,
+        clock: Clock,
+        change: Option<Change>,
+        out: &mut Vec<u8>,
+    ) -> Result<Self, Halt>
+        ensures opened { IfOk result (λ trial. (before : List Seated) × IsPlantedAs change tells tree.now before × Tells (at_start clock before) trial out.old.items out.new.items × Begins 0 (kind.Opened 0) (at_start clock before) trial) }
+        ensures told { IfOk result (λ trial. (before : List Seated) × IsPlantedAs change tells tree.now before × TellsFirst 0 (kind.Opened 0) (at_start clock before) trial out.old.items out.new.items) }
+        ensures time { IfOk result (λ trial. trial.time ≡ 0) }
+    {
+        let plants = plant_as(alloc, tree, tells, change)?;
         if plants.seats.is_empty() {
             drop(plants);
             return Err(Halt::OutOfMemory);
@@ -222,7 +243,7 @@ impl Trial {
     }
 
     /// The supervisors, the root first, and each before its children.
-    pub fn seats(&self) -> &[Seat]
+    pub fn seats(&self) -> &[TriedSupervisor]
         ensures { result.now ≡ self.now.seats }
     {
         self.seats.as_slice()
@@ -230,9 +251,10 @@ impl Trial {
 
     /// The place of the supervisor whose children's names stand behind this path, as `sub/`; the root's is empty.
     pub fn place_of(&self, path: &[u8]) -> Option<usize>
-        ensures { IfSome result (λ place. place < length self.now.seats) }
+        ensures inside { IfSome result (λ place. place < length self.now.seats) }
+        ensures found { result ≡ position (has_path path.now) self.now.seats }
     {
-        self.seats.iter().position(|seat| seat.path() == path)
+        place_with(self.seats.as_slice(), path)
     }
 
     /// The place of the supervisor of which a child has a process of this number; the root's where there is none.
@@ -278,8 +300,13 @@ impl Trial {
     }
 
     /// What starts answer that have not come yet, in the order of the lines that say so.
-    pub fn planned(&self) -> &[Plan] {
+    pub fn planned(&self) -> &[PlannedStart] {
         self.world.starts()
+    }
+
+    /// How long the starts of children take, by the last line that says so of each.
+    pub fn inits(&self) -> &[Init] {
+        self.world.inits()
     }
 
     /// The children that will hang or be slow and were not asked to shut down yet, in the order of the lines that say so.
@@ -405,7 +432,7 @@ impl Trial {
         Some(self.clock.reached(next?))
     }
 
-    /// When next something happens by itself: a deadline passes, or a slow child ends.
+    /// When next something happens by itself: a deadline passes, or a slow child ends or has started.
     pub fn next_time(&self) -> Option<u64> {
         earlier(self.deadline_of_seats(), self.world.next_late())
     }
@@ -433,7 +460,7 @@ impl Trial {
     }
 
     /// The clock goes to this time, in milliseconds since the beginning. Deadlines that come before it come first, and slow
-    /// children that end before it end first, in their order, with all that follows from each.
+    /// children that end or have started before it do so first, in their order, with all that follows from each.
     pub fn go_to(&mut self, time: u64, out: &mut Vec<u8>) -> Result<(), Halt>
         requires { time ≤ MAX_READING }
         ensures told { OnOk result (Tells self.old self.new out.old.items out.new.items) }
@@ -469,6 +496,7 @@ impl Trial {
             Action::Nothing => Ok(ActionEnd::Done),
             Action::Exit(child, reason) => self.end_process(place, &child, reason, out),
             Action::Start(id, start) => self.plan_start(place, id, start),
+            Action::Init(id, time) => self.plan_init(place, id, time),
             Action::Hang(child) => self.hang(place, child, None),
             Action::Slow(child, delay) => self.hang(place, child, Some(delay)),
             Action::Expect(expected) => self.expect(place, expected),
@@ -503,6 +531,49 @@ impl Trial {
         )
     }
 
+    /// The process of this number ends now, of a child of the supervisor at this place whose start isn't answered: the answer is
+    /// that it failed; and all that follows from it happens.
+    fn fail_number(
+        &mut self,
+        place: usize,
+        process: u64,
+        reason: Reason,
+        out: &mut Vec<u8>,
+    ) -> Result<(), Halt>
+        requires { place < length self.old.seats }
+        ensures told { OnOk result (Tells self.old self.new out.old.items out.new.items) }
+        ensures first { OnOk result (Begins place (kind.Took (item.Note (note.Failed process reason))) self.old self.new) }
+        ensures time { OnOk result (self.new.time ≡ self.old.time) }
+    {
+        self.world.lose(place, process);
+        self.play(
+            place,
+            Kind::Took(Item::Note(Note::Failed(process, reason))),
+            out,
+        )
+    }
+
+    /// The process of this number ends; where its start isn't answered, that is the answer.
+    #[tactic(auto, unfolding(crate::specs::Played::EndsBy))]
+    fn end_or_fail(
+        &mut self,
+        place: usize,
+        process: u64,
+        reason: Reason,
+        out: &mut Vec<u8>,
+    ) -> Result<(), Halt>
+        requires { place < length self.old.seats }
+        ensures told { OnOk result (Tells self.old self.new out.old.items out.new.items) }
+        ensures ends { OnOk result (EndsByAt place process reason self.old self.new) }
+        ensures time { OnOk result (self.new.time ≡ self.old.time) }
+    {
+        if self.seats[place].is_starting(process) {
+            self.fail_number(place, process, reason, out)
+        } else {
+            self.end_number(place, process, reason, out)
+        }
+    }
+
     /// The process of this number ends, unless its end was told already and waits: a process ends once.
     #[tactic(auto, unfolding(crate::specs::Played::EndsUnless))]
     fn end_found(
@@ -520,7 +591,7 @@ impl Trial {
         if self.seats[place].has_end_waiting(process) {
             return Ok(ActionEnd::EndWaits);
         }
-        self.end_number(place, process, reason, out)?;
+        self.end_or_fail(place, process, reason, out)?;
         Ok(ActionEnd::Done)
     }
 
@@ -545,23 +616,56 @@ impl Trial {
         }
     }
 
-    /// The next start of a child of the supervisor at this place answers so. The child need not be there: a call may add it.
+    /// What becomes of it that starts of a child of the supervisor at this place are planned.
     #[tactic(auto, unfolding(crate::specs::Played::end_of_plan))]
+    fn end_of_plan(&self, place: usize) -> ActionEnd
+        requires { place < length self.now.seats }
+        ensures { PlansAt place self.now.seats result }
+    {
+        if self.has_ended() {
+            return ActionEnd::Ended;
+        }
+        let seat = &self.seats[place];
+        if seat.flags().strategy.is_simple() {
+            return ActionEnd::NoIds;
+        }
+        ActionEnd::Done
+    }
+
+    /// Whether the supervisor at this place has a child with this id.
+    fn knows(&self, place: usize, id: &Name) -> bool
+        requires { place < length self.now.seats }
+    {
+        is_known(id, self.seats[place].rows())
+    }
+
+    /// The next start of a child of the supervisor at this place answers so. The child need not be there: a call may add it.
     fn plan_start(&mut self, place: usize, id: Name, start: NextStart) -> Result<ActionEnd, Halt>
         requires { place < length self.old.seats }
         ensures same { self.new ≡ self.old }
         ensures plans { IfOk result (λ taken. PlansAt place self.old.seats taken) }
     {
-        if self.has_ended() {
-            return Ok(ActionEnd::Ended);
+        let taken = self.end_of_plan(place);
+        if taken == ActionEnd::Done {
+            let is_known = self.knows(place, &id);
+            self.world.plan_start(place, id, start, is_known)?;
         }
-        let seat = &self.seats[place];
-        if seat.flags().strategy.is_simple() {
-            return Ok(ActionEnd::NoIds);
+        Ok(taken)
+    }
+
+    /// Each start of a child of the supervisor at this place takes so long from now on. The child need not be there: a call may
+    /// add it.
+    fn plan_init(&mut self, place: usize, id: Name, time: u64) -> Result<ActionEnd, Halt>
+        requires { place < length self.old.seats }
+        ensures same { self.new ≡ self.old }
+        ensures plans { IfOk result (λ taken. PlansAt place self.old.seats taken) }
+    {
+        let taken = self.end_of_plan(place);
+        if taken == ActionEnd::Done {
+            let is_known = self.knows(place, &id);
+            self.world.plan_init(place, id, time, is_known)?;
         }
-        let is_known = is_known(&id, seat.rows());
-        self.world.plan_start(place, id, start, is_known)?;
-        Ok(ActionEnd::Done)
+        Ok(taken)
     }
 
     /// The supervisor at this place is wanted to shut down. It begins with it, and all that follows from it happens; where
@@ -627,6 +731,21 @@ impl Trial {
         self.play(place, Kind::Took(Item::Call(number, call)), out)?;
         Ok(ActionEnd::Done)
     }
+}
+
+/// Whether this path stands before the names of its children.
+fn has_path(seat: &TriedSupervisor, path: &[u8]) -> bool
+    ensures { result ≡ has_path path.now seat.now }
+{
+    is_text(seat.path(), path)
+}
+
+/// The place of the first supervisor with this path.
+fn place_with(seats: &[TriedSupervisor], path: &[u8]) -> Option<usize>
+    ensures found { result ≡ position (has_path path.now) seats.now }
+    ensures inside { IfSome result (λ place. place < length seats.now) }
+{
+    seats.iter().position(|seat| has_path(seat, path))
 }
 
 /// The earlier of two times, where there are any.

@@ -1,2 +1,4 @@
-pub mod Pieces
 pub mod Pages
+pub mod Pieces
+pub mod Runs
+pub mod Stands

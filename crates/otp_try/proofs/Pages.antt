@@ -6,15 +6,15 @@ use Rattle.std.specs.Io.KnownBytes.{Appends}
 use Rattle.otp_file.specs.Trees.{Tree}
 use Rattle.otp_rules.specs.declared.event.Kind.TheVariants as kind
 use Rattle.otp_sim.specs.Devices.{AppendsPart}
-use Rattle.otp_timeline.specs.declared.moment.Moment.{Moment}
+use Rattle.otp_text.specs.declared.timeline.moment.Moment.{Moment}
 use Rattle.otp_try.specs.Page.{Adds, Piece, Remark, pieces_text, remark_text}
-use Rattle.otp_remarks.specs.Summaries.{IsSummary}
-use Rattle.otp_remarks.specs.Sketched.{drawing}
+use Rattle.otp_try.specs.Summaries.{IsSummary}
+use Rattle.otp_try.specs.Sketched.{drawing}
 use Rattle.otp_try.specs.Page.Remark.{Picture, Status, Summary}
 use Rattle.otp_try.specs.Pages.{AddsTo, Closing, Concluded, Ended, IsHalt, IsWhole, Played, Ran, StopsSo, SumsUp, Unopened, WritesOut, Wrote, WrotePart, end_of}
 use Rattle.otp_trial.specs.Played.{IsPlanted, Seated, Stand, TellsFirst, at_start, now_of}
 use Rattle.otp_trial.specs.declared.clock.Clock.{Clock}
-use Rattle.otp_remarks.specs.Prompt.{standings_text}
+use Rattle.otp_try.specs.Prompt.{standings_text}
 use Rattle.otp_try.specs.declared.early.EarlyEnd.{EarlyEnd}
 use Rattle.otp_try.specs.declared.early.EarlyEnd.TheVariants.{LineRefused, LineMissed, HistoryFull, InputFailed, OutputFailed, OutOfMemory}
 use Rattle.otp_try.specs.declared.play.TryEnd.{TryEnd}
@@ -175,7 +175,7 @@ part-then a b p q x y z first second =
 -- whatever the end, all pieces so far are written or on the page
 pub stops : (end : EarlyEnd) (a b : Stand) (p q : List ℕ) (x y : Option (List ℕ)) → Wrote a b p q x y → StopsSo end a p q x y
 stops (LineRefused _ _) a b p q x y wrote = (b, wrote)
-stops (LineMissed _ _) a b p q x y wrote = (b, wrote)
+stops (LineMissed _ _ _) a b p q x y wrote = (b, wrote)
 stops HistoryFull a b p q x y wrote = (b, wrote)
 stops InputFailed a b p q x y wrote = (b, wrote)
 stops OutputFailed a b p q x y wrote = part_wrote a b p q x y wrote
@@ -188,7 +188,7 @@ some_then a b p q r x y z first (stood, second) = (stood, wrote-then a b stood p
 pub stops-then : (end : EarlyEnd) (a b : Stand) (p q r : List ℕ) (x y z : Option (List ℕ)) → Wrote a b p q x y → StopsSo end b q r y z
     → StopsSo end a p r x z
 stops-then (LineRefused _ _) a b p q r x y z first second = some_then a b p q r x y z first second
-stops-then (LineMissed _ _) a b p q r x y z first second = some_then a b p q r x y z first second
+stops-then (LineMissed _ _ _) a b p q r x y z first second = some_then a b p q r x y z first second
 stops-then HistoryFull a b p q r x y z first second = some_then a b p q r x y z first second
 stops-then InputFailed a b p q r x y z first second = some_then a b p q r x y z first second
 stops-then OutputFailed a b p q r x y z first second = part-then a b p q x y z first second
@@ -215,7 +215,7 @@ part_last (Err _) a p q x y (stood, added) rest = part-then a stood p q x x y (w
 pub ended_early : (end : EarlyEnd) (a : Stand) (p : List ℕ) (x y : Option (List ℕ)) → StopsSo end a p [] x y → Ended (end_of end) a p x y
 unfolding end_of
 ended_early (LineRefused _ _) a p x y stopped = stopped
-ended_early (LineMissed _ _) a p x y stopped = stopped
+ended_early (LineMissed _ _ _) a p x y stopped = stopped
 ended_early HistoryFull a p x y stopped = stopped
 ended_early InputFailed a p x y stopped = stopped
 ended_early OutputFailed a p x y stopped = stopped
@@ -234,7 +234,7 @@ ends_last (Err _) end a p q left x y (stood, added) rest empty =
 -- a beginning was written, however it ended
 pub part_stops : (end : EarlyEnd) (a : Stand) (p q : List ℕ) (x y : Option (List ℕ)) → StopsSo end a p q x y → WrotePart a p x y
 part_stops (LineRefused _ _) a p q x y (stood, wrote) = part_wrote a stood p q x y wrote
-part_stops (LineMissed _ _) a p q x y (stood, wrote) = part_wrote a stood p q x y wrote
+part_stops (LineMissed _ _ _) a p q x y (stood, wrote) = part_wrote a stood p q x y wrote
 part_stops HistoryFull a p q x y (stood, wrote) = part_wrote a stood p q x y wrote
 part_stops InputFailed a p q x y (stood, wrote) = part_wrote a stood p q x y wrote
 part_stops OutputFailed a p q x y part = part
@@ -266,10 +266,10 @@ pub ended-then : (end : TryEnd) (a b : Stand) (p q : List ℕ) (x y z : Option (
     → Ended end a p x z
 ended-then try.Done a b p q x y z first second = concluded-then a b p q x y z first second
 ended-then (try.ExpectationFailed _) a b p q x y z first second = concluded-then a b p q x y z first second
-ended-then (try.LeftOut _ _) a b p q x y z first second = concluded-then a b p q x y z first second
+ended-then (try.LeftOut _ _ _) a b p q x y z first second = concluded-then a b p q x y z first second
 ended-then try.NothingPlayed a b p q x y z first second = concluded-then a b p q x y z first second
 ended-then (try.LineRefused _ _) a b p q x y z first second = some_then a b p q [] x y z first second
-ended-then (try.LineMissed _ _) a b p q x y z first second = some_then a b p q [] x y z first second
+ended-then (try.LineMissed _ _ _) a b p q x y z first second = some_then a b p q [] x y z first second
 ended-then try.HistoryFull a b p q x y z first second = some_then a b p q [] x y z first second
 ended-then try.InputFailed a b p q x y z first second = some_then a b p q [] x y z first second
 ended-then try.OutputFailed a b p q x y z first second = part-then a b p q x y z first second
@@ -279,7 +279,7 @@ ended-then try.OutOfMemory a b p q x y z first second = some_then a b p q [] x y
 pub ends_early : (end : EarlyEnd) (said : TryEnd) (a : Stand) (p q : List ℕ) (x y z : Option (List ℕ)) → (end ≡ OutputFailed → ⊥)
     → StopsSo end a p q x y → ((seats : Stand) → Ended said seats q y z) → Ended said a p x z
 ends_early (LineRefused _ _) said a p q x y z other (stood, wrote) rest = ended-then said a stood p q x y z wrote (rest stood)
-ends_early (LineMissed _ _) said a p q x y z other (stood, wrote) rest = ended-then said a stood p q x y z wrote (rest stood)
+ends_early (LineMissed _ _ _) said a p q x y z other (stood, wrote) rest = ended-then said a stood p q x y z wrote (rest stood)
 ends_early HistoryFull said a p q x y z other (stood, wrote) rest = ended-then said a stood p q x y z wrote (rest stood)
 ends_early InputFailed said a p q x y z other (stood, wrote) rest = ended-then said a stood p q x y z wrote (rest stood)
 ends_early OutputFailed said a p q x y z other part rest = absurd (other refl)
@@ -303,8 +303,8 @@ closing a x y summary sums put = record { middle = x; adds = adds_nothing a a x 
 -- a summary is a remark
 summary_adds : (a : Stand) (x y summary : List ℕ) → IsSummary a summary → y ≡ x ++ summary → Adds a a x y
 unfolding remark_text
-summary_adds a x y summary (is_quiet, is_played, others, plans, hanging, is) put =
-    adds_remark a a x y (Summary is_quiet is_played (true ∷ others) plans hanging) refl (put ∙ ap (λ (t : List ℕ). x ++ t) is)
+summary_adds a x y summary (is_quiet, is_played, others, plans, inits, hanging, is) put =
+    adds_remark a a x y (Summary is_quiet is_played (true ∷ others) plans inits hanging) refl (put ∙ ap (λ (t : List ℕ). x ++ t) is)
 
 pub closing_adds : (a : Stand) (x y : List ℕ) → Closing a x y → Adds a a x y
 closing_adds a x y closed =
@@ -344,10 +344,10 @@ concludes_all a b p q r x y z wrote closed appended =
 pub writes_whole : (end : TryEnd) (text : List ℕ) (before now : Option (List ℕ)) → IsWhole end → Appends before now text → WritesOut end text before now
 writes_whole try.Done text before now whole appended = appended
 writes_whole (try.ExpectationFailed _) text before now whole appended = appended
-writes_whole (try.LeftOut _ _) text before now whole appended = appended
+writes_whole (try.LeftOut _ _ _) text before now whole appended = appended
 writes_whole try.NothingPlayed text before now whole appended = appended
 writes_whole (try.LineRefused _ _) text before now whole appended = elim whole [ ]
-writes_whole (try.LineMissed _ _) text before now whole appended = elim whole [ ]
+writes_whole (try.LineMissed _ _ _) text before now whole appended = elim whole [ ]
 writes_whole try.HistoryFull text before now whole appended = elim whole [ ]
 writes_whole try.InputFailed text before now whole appended = elim whole [ ]
 writes_whole try.OutputFailed text before now whole appended = elim whole [ ]
@@ -358,13 +358,13 @@ pub concludes : (end : TryEnd) (a b : Stand) (p q r : List ℕ) (x y z : Option 
     → WritesOut end r y z → Ended end a p x z
 concludes try.Done a b p q r x y z wrote closed appended = concludes_all a b p q r x y z wrote closed appended
 concludes (try.ExpectationFailed _) a b p q r x y z wrote closed appended = concludes_all a b p q r x y z wrote closed appended
-concludes (try.LeftOut _ _) a b p q r x y z wrote closed appended = concludes_all a b p q r x y z wrote closed appended
+concludes (try.LeftOut _ _ _) a b p q r x y z wrote closed appended = concludes_all a b p q r x y z wrote closed appended
 concludes try.NothingPlayed a b p q r x y z wrote closed appended = concludes_all a b p q r x y z wrote closed appended
 concludes try.OutputFailed a b p q r x y z wrote closed part =
     let all : Wrote a b p r x y = wrote-then a b b p q r x y y wrote (wrote_adds b b q r y (closing_adds b q r closed)) in
     part-then a b p r x y z all (part_page b r r y z refl part)
 concludes (try.LineRefused _ _) a b p q r x y z wrote closed none = elim none [ ]
-concludes (try.LineMissed _ _) a b p q r x y z wrote closed none = elim none [ ]
+concludes (try.LineMissed _ _ _) a b p q r x y z wrote closed none = elim none [ ]
 concludes try.HistoryFull a b p q r x y z wrote closed none = elim none [ ]
 concludes try.InputFailed a b p q r x y z wrote closed none = elim none [ ]
 concludes try.OutOfMemory a b p q r x y z wrote closed none = elim none [ ]
@@ -383,7 +383,7 @@ unfolding end_of
 of_halt HistoryFull now halted = refl
 of_halt OutOfMemory now halted = refl
 of_halt (LineRefused _ _) now halted = halted
-of_halt (LineMissed _ _) now halted = halted
+of_halt (LineMissed _ _ _) now halted = halted
 of_halt InputFailed now halted = halted
 of_halt OutputFailed now halted = halted
 

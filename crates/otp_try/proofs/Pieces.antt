@@ -1,9 +1,9 @@
 -- Pieces of a run that come one after another.
-use Rattle.std.specs.Prelude.{◌≡◌, ℕ, Bool, List, [], ◌∷◌, ◌++◌, map, refl}
+use Rattle.std.specs.Prelude.{◌≡◌, ℕ, Bool, Ok, List, [], ◌∷◌, ◌++◌, map, refl}
 use Rattle.std.proofs.Common.{◌∙◌, ap, sym, subst, append_assoc, append-nil}
 use Rattle.otp_try.specs.Page.{Adds, Did, Leads, Piece, Remark, Said, Undone, pieces_text, remark_text, shown, verdict_text}
-use Rattle.otp_remarks.specs.Lines.{heading_line}
-use Rattle.otp_script.specs.declared.step.When.{When}
+use Rattle.otp_try.specs.Lines.{heading_line}
+use Rattle.otp_script.specs.Lines.{Saying, saying_in}
 use Rattle.otp_try.specs.Page.Remark.{Heading, Verdict}
 use Rattle.otp_trial.specs.Played.{Stand, Tells, at_start, fresh, story}
 use Rattle.otp_trial.specs.Steps.{TellsTimes}
@@ -13,7 +13,7 @@ use Rattle.otp_trial.specs.declared.trial.ActionEnd.{ActionEnd}
 pub leads-append : (a b c : Stand) (ps qs : List Piece) → Leads a ps b → Leads b qs c → Leads a (ps ++ qs) c
 leads-append a b c [] qs first second = subst (λ (s : Stand). Leads s qs c) first second
 leads-append a b c (Said r ∷ ps) qs first second = leads-append a b c ps qs first second
-leads-append a b c (Did when times end ms other ∷ ps) qs (does, rest) second = (does, leads-append other b c ps qs rest second)
+leads-append a b c (Did line end ms other ∷ ps) qs (does, rest) second = (does, leads-append other b c ps qs rest second)
 leads-append a b c (Undone ms other ∷ ps) qs (made, rest) second = (made, leads-append other b c ps qs rest second)
 
 pub text-append : (a b : Stand) (ps qs : List Piece) → Leads a ps b → pieces_text a (ps ++ qs) ≡ pieces_text a ps ++ pieces_text b qs
@@ -21,7 +21,7 @@ text-append a b [] qs first = ap (λ (s : Stand). pieces_text s qs) (sym first)
 text-append a b (Said r ∷ ps) qs first =
     ap (λ (text : List ℕ). remark_text r a ++ text) (text-append a b ps qs first)
     ∙ sym (append_assoc (remark_text r a) (pieces_text a ps) (pieces_text b qs))
-text-append a b (Did when times end ms other ∷ ps) qs (does, rest) =
+text-append a b (Did line end ms other ∷ ps) qs (does, rest) =
     ap (λ (text : List ℕ). story ms ++ text) (text-append other b ps qs rest)
     ∙ sym (append_assoc (story ms) (pieces_text other ps) (pieces_text b qs))
 text-append a b (Undone ms other ∷ ps) qs (made, rest) = text-append other b ps qs rest
@@ -59,10 +59,10 @@ pub undone_by : (a b : Stand) (p : List ℕ) → ((x : List ℕ) × (y : List �
 undone_by a b p (x, y, told) = adds_undone a b x y p p told refl
 
 -- a line was done
-pub adds_done : (when : When) (times : ℕ) (end : ActionEnd) (a b : Stand) (x y : List ℕ) → TellsTimes when times end a b x y → Adds a b x y
-adds_done when times end a b x y (ms, does, told) = record {
-  pieces = Did when times end ms b ∷ [];
-  lead = (does, refl);
+pub adds_done : (said : Saying) (line : List ℕ) (end : ActionEnd) (a b : Stand) (x y : List ℕ) → saying_in line ≡ Ok said → TellsTimes said end a b x y → Adds a b x y
+adds_done said line end a b x y says (ms, does, told) = record {
+  pieces = Did line end ms b ∷ [];
+  lead = ((said, (says, does)), refl);
   text = told ∙ ap (λ (text : List ℕ). x ++ text) (sym (append-nil (story ms)));
 }
 
@@ -75,11 +75,11 @@ adds_sheet a b sheet written page new empty told put = record {
 }
 
 -- the heading of a line, then what its supervisors order, then what became of it
-pub adds_line : (number k : ℕ) (line : List ℕ) (by : Writer) (is_unknown : Bool) (when : When) (times : ℕ) (end : ActionEnd) (a b : Stand) (w x y z : List ℕ)
-    → ((has_heading : Bool) × (x ≡ w ++ heading_line has_heading number line)) → TellsTimes when times end a b x y → ((is_told : Bool) × (z ≡ y ++ shown is_told (verdict_text by k line is_unknown end)))
+pub adds_line : (number k : ℕ) (line : List ℕ) (by : Writer) (is_unknown : Bool) (said : Saying) (end : ActionEnd) (a b : Stand) (w x y z : List ℕ)
+    → saying_in line ≡ Ok said → ((has_heading : Bool) × (x ≡ w ++ heading_line has_heading number line)) → TellsTimes said end a b x y → ((is_told : Bool) × (z ≡ y ++ shown is_told (verdict_text by k line is_unknown end)))
     → Adds a b w z
 unfolding remark_text
-adds_line number k line by is_unknown when times end a b w x y z (has_heading, above) told (is_told, below) =
+adds_line number k line by is_unknown said end a b w x y z says (has_heading, above) told (is_told, below) =
     adds-then a b b w y z
-    (adds-then a a b w x y (adds_remark a a w x (Heading has_heading number line) refl above) (adds_done when times end a b x y told))
+    (adds-then a a b w x y (adds_remark a a w x (Heading has_heading number line) refl above) (adds_done said line end a b x y says told))
     (adds_remark b b y z (Verdict is_told by k line is_unknown end) refl below)

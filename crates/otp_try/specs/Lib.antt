@@ -1,3 +1,15 @@
+pub mod Accounts
 pub mod Asked
+pub mod Awaiting
+pub mod Fate
+pub mod Fit
+pub mod Lines
 pub mod Page
 pub mod Pages
+pub mod Prompt
+pub mod Sketched
+pub mod Standing
+pub mod Summaries
+pub mod Texts
+pub mod Unused
+pub mod Verdict

@@ -5,7 +5,7 @@ use Rattle.otp_file.specs.Trees.{Tree}
 use Rattle.otp_rules.specs.declared.event.Kind.TheVariants as kind
 use Rattle.otp_sim.specs.Devices.{AppendsPart}
 use Rattle.otp_try.specs.Page.{Adds, Leads, Piece, pieces_text}
-use Rattle.otp_remarks.specs.Summaries.{IsSummary}
+use Rattle.otp_try.specs.Summaries.{IsSummary}
 use Rattle.otp_trial.specs.Played.{IsPlanted, Seated, Stand, TellsFirst, at_start}
 use Rattle.otp_trial.specs.declared.clock.Clock.{Clock}
 use Rattle.otp_try.specs.declared.early.EarlyEnd.{EarlyEnd}
@@ -45,7 +45,7 @@ StopsSo _ old page left before now = (stood : Stand) × Wrote old stood page lef
 -- how such a run is said to end
 unfoldable pub end_of : EarlyEnd → TryEnd
 end_of (early.LineRefused line why) = LineRefused line why
-end_of (early.LineMissed line why) = LineMissed line why
+end_of (early.LineMissed line why near) = LineMissed line why near
 end_of early.HistoryFull = HistoryFull
 end_of early.InputFailed = InputFailed
 end_of early.OutputFailed = OutputFailed
@@ -72,7 +72,7 @@ SumsUp (Err _) stand before after = (stood : Stand) × Adds stand stood before a
 abbrev pub IsWhole : TryEnd → Type 0
 IsWhole Done = Unit {0}
 IsWhole (ExpectationFailed _) = Unit {0}
-IsWhole (LeftOut _ _) = Unit {0}
+IsWhole (LeftOut _ _ _) = Unit {0}
 IsWhole NothingPlayed = Unit {0}
 IsWhole _ = ⊥
 
@@ -80,7 +80,7 @@ IsWhole _ = ⊥
 abbrev pub WritesOut : TryEnd → List ℕ → Option (List ℕ) → Option (List ℕ) → Type 0
 WritesOut Done text before now = Appends before now text
 WritesOut (ExpectationFailed _) text before now = Appends before now text
-WritesOut (LeftOut _ _) text before now = Appends before now text
+WritesOut (LeftOut _ _ _) text before now = Appends before now text
 WritesOut NothingPlayed text before now = Appends before now text
 WritesOut OutputFailed text before now = AppendsPart before now text
 WritesOut _ text before now = ⊥
@@ -100,7 +100,7 @@ pub record Concluded (old : Stand) (page : List ℕ) (before now : Option (List 
 abbrev pub Ended : TryEnd → Stand → List ℕ → Option (List ℕ) → Option (List ℕ) → Type 0
 Ended Done old page before now = Concluded old page before now
 Ended (ExpectationFailed _) old page before now = Concluded old page before now
-Ended (LeftOut _ _) old page before now = Concluded old page before now
+Ended (LeftOut _ _ _) old page before now = Concluded old page before now
 Ended NothingPlayed old page before now = Concluded old page before now
 Ended OutputFailed old page before now = WrotePart old page before now
 Ended _ old page before now = (stood : Stand) × Wrote old stood page [] before now
@@ -110,7 +110,7 @@ abbrev pub Concludes : TryEnd → Stand → List ℕ → Option (List ℕ) → O
 Concludes end trial text between now =
     (stand : Stand) (page : List ℕ) (before : Option (List ℕ)) → Wrote stand trial page text before between → Ended end stand page before now
 
--- the same of a run that stopped early
+-- where a run stopped early, this text of it is left and so much was written, it ended so
 abbrev pub Closes : EarlyEnd → TryEnd → List ℕ → Option (List ℕ) → Option (List ℕ) → Type 0
 Closes why end text between now =
     (stand : Stand) (page : List ℕ) (before : Option (List ℕ)) → StopsSo why stand page text before between → Ended end stand page before now

@@ -6,9 +6,9 @@ ghost use Rattle.otp_trial.specs.Played.{Stand};
 
 use crate::early::EarlyEnd;
 use crate::play::{Play, TryEnd, Writer};
+use crate::remarks::summary_of;
+use crate::remarks::unused::line_of_unknown;
 use crate::settings::Settings;
-use otp_remarks::summary_of;
-use otp_remarks::unused::line_of_unknown;
 use otp_sim::{Input, Output, write_all};
 use otp_trial::ActionEnd;
 
@@ -47,8 +47,8 @@ impl Play {
     fn end_of(&self, settings: Settings) -> TryEnd
         ensures { IsWhole result }
     {
-        if let Some((line, why)) = self.left_out {
-            return TryEnd::LeftOut(line, why);
+        if let Some((line, why, near)) = self.left_out {
+            return TryEnd::LeftOut(line, why, near);
         }
         if !self.has_verdict(settings) {
             return TryEnd::NothingPlayed;
@@ -95,10 +95,11 @@ impl Play {
 
     /// Whether a line of the script could do nothing: it planned the start of a child that wasn't there, and none came.
     fn judge(&self, settings: Settings) -> Result<(), EarlyEnd> {
-        match line_of_unknown(self.trial.planned()) {
+        match line_of_unknown(self.trial.planned(), self.trial.inits()) {
             Some(line) if settings.writer == Writer::Script => Err(EarlyEnd::LineMissed(
                 line,
                 ActionEnd::NoChild,
+                None,
             )),
             _ => Ok(()),
         }

@@ -4,6 +4,7 @@ ghost use Rattle.std.specs.Prelude.{◌≡◌};
 ghost use Rattle.otp_try.specs.Pages.{end_of};
 
 use crate::play::TryEnd;
+use otp_reason::Text;
 use otp_script::ScriptFault;
 use otp_trial::{ActionEnd, Halt};
 
@@ -12,8 +13,8 @@ use otp_trial::{ActionEnd, Halt};
 pub(crate) enum EarlyEnd {
     /// The line with this number can't be read.
     LineRefused(u64, ScriptFault),
-    /// The line with this number could do nothing.
-    LineMissed(u64, ActionEnd),
+    /// The line with this number could do nothing; the child with this path may have been meant.
+    LineMissed(u64, ActionEnd, Option<Text>),
     /// There were 2^62 events, as many as a supervisor has in its life.
     HistoryFull,
     InputFailed,
@@ -29,7 +30,7 @@ impl EarlyEnd {
     {
         match self {
             EarlyEnd::LineRefused(line, why) => TryEnd::LineRefused(line, why),
-            EarlyEnd::LineMissed(line, why) => TryEnd::LineMissed(line, why),
+            EarlyEnd::LineMissed(line, why, near) => TryEnd::LineMissed(line, why, near),
             EarlyEnd::HistoryFull => TryEnd::HistoryFull,
             EarlyEnd::InputFailed => TryEnd::InputFailed,
             EarlyEnd::OutputFailed => TryEnd::OutputFailed,

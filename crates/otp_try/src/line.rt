@@ -1,16 +1,18 @@
 //! A line of the input, played on a trial: its heading, what it does, and what became of it.
 
-ghost use Rattle.std.specs.Prelude.{Bool, ◌≡◌, ◌++◌, OnOk};
-ghost use Rattle.otp_remarks.specs.Lines.{heading_line};
+ghost use Rattle.std.specs.Prelude.{Bool, ◌≡◌, ◌++◌, Ok, OnOk};
+ghost use Rattle.otp_try.specs.Lines.{heading_line};
+ghost use Rattle.otp_script.specs.Lines.{saying, saying_in};
 ghost use Rattle.otp_try.specs.Page.{Adds, reply_text, shown, verdict_text};
 
 use crate::early::EarlyEnd;
+use crate::meant::near_child;
 use crate::play::Writer;
-use otp_remarks::lines::{write_heading_line, write_known, write_left_out, write_unmet};
+use crate::remarks::lines::{write_heading_line, write_known, write_left_out, write_unmet};
 use otp_script::Step;
 use otp_trial::steps::{Outcome, do_times, is_silent};
 use otp_trial::{ActionEnd, Halt, Trial};
-use std::alloc::AllocError;
+use std::alloc::{AllocError, Global};
 
 /// A line of the input: who wrote it, whether what it does is told in full, and its number, counted from 1.
 #[derive(Clone, Copy, Debug, PartialEq, Eq)]
@@ -114,13 +116,16 @@ impl Line {
         }
     }
 
-    /// How the line ended: a script ends where one did nothing.
-    fn end_of(self, outcome: Outcome) -> LineEnd {
-        match outcome.taken {
+    /// How the line ended: a script ends where one did nothing, and then the child is looked for that was meant.
+    fn end_of(self, alloc: Global, trial: &Trial, step: Step<'_>, taken: ActionEnd) -> LineEnd {
+        match taken {
             ActionEnd::Done => LineEnd::Taken,
             ActionEnd::Unmet => LineEnd::Unmet,
             taken => match self.writer {
-                Writer::Script => LineEnd::Ends(EarlyEnd::LineMissed(self.number, taken)),
+                Writer::Script => {
+                    let near = near_child(alloc, trial, step, taken);
+                    LineEnd::Ends(EarlyEnd::LineMissed(self.number, taken, near))
+                }
                 Writer::Log => LineEnd::LeftOut(taken),
                 Writer::Person => LineEnd::Forgotten,
             },
@@ -136,16 +141,18 @@ impl Line {
     /// Where memory is refused, or a supervisor has had 2^62 events.
     pub fn play(
         self,
+        alloc: Global,
         trial: &mut Trial,
         line: &[u8],
         step: Step<'_>,
         out: &mut Vec<u8>,
     ) -> Result<LineEnd, Halt>
+        requires { saying_in line.now ≡ Ok (saying step.when step.times step.path.now step.action) }
         ensures { OnOk result (Adds trial.old trial.new out.old.items out.new.items) }
     {
         self.write_heading(line, step, out)?;
         let outcome = do_times(trial, step, out)?;
         self.write_verdict(line, outcome, out)?;
-        Ok(self.end_of(outcome))
+        Ok(self.end_of(alloc, trial, step, outcome.taken))
     }
 }

@@ -16,7 +16,7 @@ use std::alloc::AllocError;
 
 /// A line that did something.
 #[derive(Drop)]
-pub(crate) struct Kept {
+pub(crate) struct KeptLine {
     pub number: u64,
     pub line: Vec<u8>,
 }
@@ -106,7 +106,7 @@ impl Play {
         }
         let mut text = Vec::new(self.alloc);
         text.extend_from_slice(line)?;
-        let kept = Kept {
+        let kept = KeptLine {
             number: self.lines,
             line: text,
         };
@@ -163,7 +163,7 @@ impl Play {
 }
 
 /// Plays a line that was kept.
-fn play_kept_line(trial: &mut Trial, kept: &Kept, out: &mut Vec<u8>) -> Result<(), Halt>
+fn play_kept_line(trial: &mut Trial, kept: &KeptLine, out: &mut Vec<u8>) -> Result<(), Halt>
     ensures { OnOk result (Tells trial.old trial.new out.old.items out.new.items) }
 {
     let Ok(step) = read_step(kept.line.as_slice()) else {

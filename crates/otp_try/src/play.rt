@@ -1,21 +1,22 @@
 //! A script that is played to its end, line by line.
 
 ghost use Rattle.std.specs.Prelude.{List, ◌++◌, Bool, ◌≡◌, IfOk, OnOk, OnErr};
-ghost use Rattle.otp_timeline.specs.declared.moment.Moment.{Moment};
-ghost use Rattle.otp_remarks.specs.Sketched.{drawing};
+ghost use Rattle.otp_text.specs.declared.timeline.moment.Moment.{Moment};
+ghost use Rattle.otp_try.specs.Sketched.{drawing};
 ghost use Rattle.otp_try.specs.Pages.{AddsTo, Tries, tells_orders};
 ghost use Rattle.otp_trial.specs.Played.{Seated, Stand};
 
 use crate::early::EarlyEnd;
 use crate::line::LineEnd;
-use crate::person::Kept;
+use crate::person::KeptLine;
 use crate::remark::Topic;
+use crate::remarks::{Sketch, moment_at};
 use crate::settings::{Playing, Settings, is_quiet, sketch_of, tells_orders};
 use otp_file::TreeSpec;
-use otp_remarks::{Sketch, moment_at};
+use otp_reason::Text;
 use otp_script::ScriptFault;
 use otp_sim::{Input, Output};
-use otp_trial::{ActionEnd, Seat, Trial};
+use otp_trial::{ActionEnd, Trial, TriedSupervisor};
 use std::alloc::{AllocError, Global};
 
 /// How a script ended.
@@ -26,12 +27,12 @@ pub enum TryEnd {
     /// The line with this number, counted from 1, can't be read.
     LineRefused(u64, ScriptFault),
     /// The line with this number could do nothing: the child or the supervisor that it means is not there or has no process,
-    /// its time has gone by, or the root has ended.
-    LineMissed(u64, ActionEnd),
+    /// its time has gone by, or the root has ended. Where there is no such child, the nearest is told by its path, if one is near.
+    LineMissed(u64, ActionEnd, Option<Text>),
     /// All of it was played, and what the line with this number expected was not so, the first of such lines.
     ExpectationFailed(u64),
     /// All lines of a log were played but those that could do nothing, of which this is the first.
-    LeftOut(u64, ActionEnd),
+    LeftOut(u64, ActionEnd, Option<Text>),
     /// No line said that something happens.
     NothingPlayed,
     /// There were 2^62 events, as many as a supervisor has in its life.
@@ -62,13 +63,13 @@ pub(crate) struct Play {
     /// The first line whose expectation was not so.
     pub failed: Option<u64>,
     /// The first line of a log that could do nothing, and why.
-    pub left_out: Option<(u64, ActionEnd)>,
+    pub left_out: Option<(u64, ActionEnd, Option<Text>)>,
     /// A line was played that says something.
     pub is_played: bool,
     /// A person has left the prompt: nothing more is read.
     pub is_left: bool,
     /// The lines of a person that did something, for one who wants the last of them undone.
-    pub kept: Vec<Kept>,
+    pub kept: Vec<KeptLine>,
     /// The line that was played last did something.
     pub is_done: bool,
     /// What is told and not yet written. What goes there goes there whole, or not at all.
@@ -192,7 +193,11 @@ impl Play {
 }
 
 /// The picture of these supervisors at the moments that are not drawn yet.
-fn picture_of(alloc: Global, sketch: &Sketch, seats: &[Seat]) -> Result<Vec<u8>, AllocError>
+fn picture_of(
+    alloc: Global,
+    sketch: &Sketch,
+    seats: &[TriedSupervisor],
+) -> Result<Vec<u8>, AllocError>
     ensures { IfOk result (λ text. text.items ≡ drawing sketch.now.is_coloured seats.now sketch.now.moments.items) }
 {
     let mut text = Vec::new(alloc);

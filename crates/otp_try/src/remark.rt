@@ -3,9 +3,9 @@
 ghost use Rattle.std.specs.Prelude.{◌≡◌, ◌++◌, IfOk, OnOk};
 ghost use Rattle.otp_try.specs.Page.{Remark, fault_line, remark_text};
 
-use otp_remarks::help::{write_farewell, write_help, write_legend, write_welcome};
-use otp_remarks::prompt::write_prompt;
-use otp_remarks::summary::write_all_standings;
+use crate::remarks::help::{write_farewell, write_help, write_legend, write_welcome};
+use crate::remarks::prompt::write_prompt;
+use crate::remarks::summary::write_all_standings;
 use otp_script::ScriptFault;
 use otp_trial::Trial;
 use std::alloc::{AllocError, Global};

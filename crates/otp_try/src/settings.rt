@@ -4,7 +4,7 @@ ghost use Rattle.std.specs.Prelude.{◌≡◌};
 ghost use Rattle.otp_try.specs.Pages.{tells_orders};
 
 use crate::play::Writer;
-use otp_remarks::Sketch;
+use crate::remarks::Sketch;
 use otp_trial::Clock;
 use std::alloc::Global;
 

@@ -1,12 +1,14 @@
 //! The lines of a run, one after another: each is played, told, and drawn where a picture is wanted.
 
-ghost use Rattle.std.specs.Prelude.{List, ◌≡◌, OnOk};
+ghost use Rattle.std.specs.Prelude.{List, ◌≡◌, Ok, OnOk};
+ghost use Rattle.otp_script.specs.Lines.{saying, saying_in};
 ghost use Rattle.otp_try.specs.Page.{Adds};
 ghost use Rattle.otp_try.specs.Pages.{AddsTo};
 ghost use Rattle.otp_trial.specs.Played.{Stand};
 
 use crate::early::EarlyEnd;
 use crate::line::{Line, LineEnd};
+use crate::meant::near_child;
 use crate::play::{Play, Writer};
 use crate::remark::Topic;
 use crate::settings::Settings;
@@ -104,6 +106,7 @@ impl Play {
 
     /// A line that was read is played, and drawn where a picture is wanted.
     fn take_step(&mut self, settings: Settings, line: &[u8], step: Step<'_>) -> Result<(), EarlyEnd>
+        requires { saying_in line.now ≡ Ok (saying step.when step.times step.path.now step.action) }
         ensures { AddsTo result self.old.trial self.new.trial self.old.page.items self.new.page.items }
     {
         match self.play_step(settings, line, step) {
@@ -144,7 +147,8 @@ impl Play {
         ensures same { self.new.trial ≡ self.old.trial }
     {
         if self.left_out.is_none() {
-            self.left_out = Some((self.lines, why));
+            let near = near_child(self.alloc, &self.trial, step, why);
+            self.left_out = Some((self.lines, why, near));
         }
         self.end_taken(step)
     }
@@ -178,6 +182,7 @@ impl Play {
         line: &[u8],
         step: Step<'_>,
     ) -> Result<LineEnd, EarlyEnd>
+        requires { saying_in line.now ≡ Ok (saying step.when step.times step.path.now step.action) }
         ensures { AddsTo result self.old.trial self.new.trial self.old.page.items self.new.page.items }
     {
         let mut told = Vec::new(self.alloc);
@@ -195,6 +200,7 @@ impl Play {
         step: Step<'_>,
         told: &mut Vec<u8>,
     ) -> Result<LineEnd, Halt>
+        requires { saying_in line.now ≡ Ok (saying step.when step.times step.path.now step.action) }
         ensures told { OnOk result (Adds self.old.trial self.new.trial told.old.items told.new.items) }
         ensures page { self.new.page.items ≡ self.old.page.items }
     {
@@ -203,7 +209,7 @@ impl Play {
             tells: settings.tells,
             number: self.lines,
         };
-        place.play(&mut self.trial, line, step, told)
+        place.play(self.alloc, &mut self.trial, line, step, told)
     }
 }
 

@@ -1,21 +1,20 @@
 -- A run that was told with the supervisors that have a process.
 use Rattle.std.specs.Prelude.{◌≡◌, ℕ, Bool, true, List, [], ◌∷◌, ◌++◌}
 use Rattle.std.proofs.Common.{◌∙◌, ap}
-use Rattle.otp_account.specs.declared.account.Account.{Account}
+use Rattle.otp_try.specs.declared.account.account.Account.{Account}
 use Rattle.otp_trial.specs.Played.{Seated}
-use Rattle.otp_remarks.specs.Verdict.{whole_verdict}
-use Rattle.otp_try_pages.specs.Objects.{TellsRun, is_played, run_text}
+use Rattle.otp_try.specs.Verdict.{whole_verdict}
+use Rattle.otp_try_pages.specs.Objects.{TellsBehind, is_played, run_members}
 use Rattle.otp_try_pages.specs.Timeline.{TellsPage, timeline_page}
 
-pub told : (name : List ℕ) (account : Account) (seats : List Seated) (running slice : List Bool) (before text : List ℕ) → seats ≡ account.trial.seats
-    → ((others : List Bool) × (running ≡ true ∷ others)) → slice ≡ running → before ≡ [] → text ≡ before ++ run_text name account seats slice
-    → TellsRun name account text
-told name account seats running slice before text seats_are (others, running_are) same empty is = (
+pub told : (front : List ℕ) (account : Account) (seats : List Seated) (running slice : List Bool) (text : List ℕ) → seats ≡ account.trial.seats
+    → ((others : List Bool) × (running ≡ true ∷ others)) → slice ≡ running → text ≡ front ++ run_members account seats slice
+    → TellsBehind front account text
+told front account seats running slice text seats_are (others, running_are) same is = (
   others,
   is
-      ∙ ap (λ (b : List ℕ). b ++ run_text name account seats slice) empty
-      ∙ ap (λ (ss : List Seated). run_text name account ss slice) seats_are
-      ∙ ap (λ (rs : List Bool). run_text name account account.trial.seats rs) (same ∙ running_are),
+      ∙ ap (λ (ss : List Seated). front ++ run_members account ss slice) seats_are
+      ∙ ap (λ (rs : List Bool). front ++ run_members account account.trial.seats rs) (same ∙ running_are),
 )
 
 -- a run was told as a page with its verdict

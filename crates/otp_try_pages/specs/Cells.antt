@@ -1,15 +1,15 @@
 -- How a supervisor and its children stood at a moment, as a cell of a page (own).
-use Rattle.std.specs.Prelude.{ℕ, Bool, true, false, max, List, [], ◌∷◌, ◌++◌, Option, Some, None, codes, decimal, nat_lt, if◌then◌else◌}
+use Rattle.std.specs.Prelude.{ℕ, Bool, true, false, not, ◌||◌, max, List, [], ◌∷◌, ◌++◌, Option, Some, None, codes, decimal, nat_lt, if◌then◌else◌}
 use Rattle.std.specs.List.{flat_map}
-use Rattle.otp_html.specs.Markup.{element}
+use Rattle.otp_pages.specs.Markup.{element}
 use Rattle.otp_reason.specs.Names.{name_bytes}
 use Rattle.otp_reason.specs.declared.name.Name.{Name}
-use Rattle.otp_table.specs.Rows.{number_of}
+use Rattle.otp_table.specs.Rows.{is_up, number_of}
 use Rattle.otp_table.specs.declared.row.RowState.{RowState}
 use Rattle.otp_table.specs.declared.row.RowState.TheVariants.{Undefined, Starting, Up, Asked, Killed, Restarting}
-use Rattle.otp_timeline.specs.declared.moment.Mark.{Mark}
-use Rattle.otp_timeline.specs.declared.moment.Moment.{Moment}
-use Rattle.otp_timeline.specs.declared.moment.Standing.{Standing}
+use Rattle.otp_text.specs.declared.timeline.moment.Mark.{Mark}
+use Rattle.otp_text.specs.declared.timeline.moment.Moment.{Moment}
+use Rattle.otp_text.specs.declared.timeline.moment.Standing.{Standing}
 use Rattle.otp_trial.specs.Played.{Seated}
 
 -- the greater of two numbers, of which there may be no second
@@ -26,7 +26,7 @@ abbrev pub greatest_in : ℕ → List Standing → ℕ
 greatest_in most [] = most
 greatest_in most (standing ∷ standings) = greatest_in (greatest_of most standing.marks) standings
 
--- the same of all children at a moment: those that are started later have greater ones
+-- the greatest number of a process at a moment: those that are started later have greater ones
 unfoldable pub greatest : Moment → ℕ
 greatest moment = greatest_in 0 moment.standings
 
@@ -70,6 +70,13 @@ chip_html last mark =
     chip_class mark.state ++ new_mark (is_new last mark.state) ++ element [] (id_text mark.id) (codes " ")
     ++ process_words mark.state ++ codes "</span>"
 
+-- a row tells of those that were started since, and of those that don't run; all others run on
+unfoldable pub is_told : ℕ → RowState → Bool
+is_told last state = is_new last state || not (is_up state)
+
+unfoldable pub chip_if : ℕ → Mark → List ℕ
+chip_if last mark = if is_told last mark.state then chip_html last mark else []
+
 -- how many restarts lie in the period, of how many
 unfoldable pub use_html : ℕ → ℕ → List ℕ
 use_html restarts intensity = codes "<small>" ++ decimal restarts ++ codes "/" ++ decimal intensity ++ codes " restarts</small>"
@@ -78,7 +85,7 @@ use_html restarts intensity = codes "<small>" ++ decimal restarts ++ codes "/" +
 unfoldable pub standing_cell : ℕ → ℕ → Standing → List ℕ
 standing_cell last intensity standing =
     if standing.is_over then codes "<td><small>does not run</small></td>\n"
-    else codes "<td>" ++ flat_map (chip_html last) standing.marks ++ use_html standing.restarts intensity ++ codes "</td>\n"
+    else codes "<td>" ++ flat_map (chip_if last) standing.marks ++ use_html standing.restarts intensity ++ codes "</td>\n"
 
 -- those of supervisors, in their order
 unfoldable pub cells_html : ℕ → List Seated → List Standing → List ℕ

@@ -1,4 +1,9 @@
 pub mod Orders
 pub mod Objects
 pub mod Cells
+pub mod Scale
+pub mod Names
+pub mod Tracks
+pub mod Windows
 pub mod Timeline
+pub mod Replayed

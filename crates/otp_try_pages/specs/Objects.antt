@@ -1,21 +1,21 @@
 -- A run of a script, as an object of JSON (own).
 use Rattle.std.specs.Prelude.{◌≡◌, ℕ, ◌==◌, Bool, true, false, ◌&&◌, not, List, [], ◌∷◌, ◌++◌, Option, Some, None, codes, if◌then◌else◌}
-use Rattle.otp_account.specs.declared.account.Account.{Account}
-use Rattle.otp_account.specs.declared.account.Played.{Played}
+use Rattle.otp_try.specs.declared.account.account.Account.{Account}
+use Rattle.otp_try.specs.declared.account.account.Played.{Played}
 use Rattle.otp_json.specs.Values.{key_text, number_member, optional_member, text_member}
-use Rattle.otp_limits.specs.Falls.{supervisor_path}
+use Rattle.otp_costs.specs.Falls.{supervisor_path}
 use Rattle.otp_rules.specs.State.{is_over}
 use Rattle.otp_spec.specs.declared.flags.SupFlags.{SupFlags}
-use Rattle.otp_timeline.specs.Seconds.{seconds_text}
+use Rattle.otp_text.specs.Seconds.{seconds_text}
 use Rattle.otp_trial.specs.Played.{Seated, state_in}
 use Rattle.otp_trial.specs.Taken.{taken_text}
-use Rattle.otp_telling.specs.declared.strain.Strain.{Strain}
+use Rattle.otp_trial.specs.declared.story.strain.Strain.{Strain}
 use Rattle.otp_trial.specs.declared.trial.ActionEnd.{ActionEnd}
 use Rattle.otp_trial.specs.declared.trial.ActionEnd.TheVariants as taken
-use Rattle.otp_try_pages.specs.Orders.{first_word, is_child_verb, number_in, order_in, own_part, path_part, rest_of}
-use Rattle.otp_remarks.specs.Fate.{awaits_text, fate_of}
-use Rattle.otp_remarks.specs.declared.fate.Fate.{Fate}
-use Rattle.otp_remarks.specs.declared.fate.Fate.TheVariants as fate
+use Rattle.otp_try_pages.specs.Orders.{first_word, is_child_verb, is_down, number_in, order_in, own_part, path_part, rest_of}
+use Rattle.otp_try.specs.Fate.{awaits_text, fate_of}
+use Rattle.otp_try.specs.declared.remarks.fate.Fate.{Fate}
+use Rattle.otp_try.specs.declared.remarks.fate.Fate.TheVariants as fate
 use Rattle.otp_script.specs.Faults.{fault_text}
 use Rattle.otp_try.specs.declared.play.TryEnd.{TryEnd}
 use Rattle.otp_try.specs.declared.play.TryEnd.TheVariants as end
@@ -43,34 +43,52 @@ order_object line =
     then child_object line (first_word (own_part (order_in line))) (rest_of (own_part (order_in line)))
     else own_object line (first_word (own_part (order_in line))) (path_part (order_in line)) (rest_of (own_part (order_in line)))
 
+-- since when a child is up again, and how long it was down, in seconds
+unfoldable pub down_object : List ℕ → List ℕ → List ℕ
+down_object line order =
+    key_text (codes "{") (codes "seconds") ++ first_word line ++ text_member (codes ", ") (codes "child") (first_word order)
+    ++ key_text (codes ", ") (codes "down") ++ first_word (rest_of (rest_of (rest_of order))) ++ codes "}"
+
+-- the line tells how long a child was down, where that is asked, or else an order
+unfoldable pub is_among : Bool → List ℕ → Bool
+is_among true line = is_down (order_in line)
+is_among false line = not (is_down (order_in line))
+
+unfoldable pub object_of : Bool → List ℕ → List ℕ
+object_of true line = down_object line (order_in line)
+object_of false line = order_object line
+
 -- a comma, but before the first
 unfoldable pub comma_if : Bool → List ℕ
 comma_if true = []
 comma_if false = codes ", "
 
-unfoldable pub next_order : Bool → List ℕ → List ℕ
-next_order is_first line = comma_if is_first ++ order_object line
+unfoldable pub next_object : Bool → Bool → List ℕ → List ℕ
+next_object asks_down is_first line = if is_among asks_down line then comma_if is_first ++ object_of asks_down line else []
 
--- the orders of which these lines were told, the first of which has begun so
-abbrev pub orders_from : Bool → List ℕ → List ℕ → List ℕ
-orders_from is_first line [] = []
-orders_from is_first line (byte ∷ bytes) =
-    if byte == 10 then next_order is_first line ++ orders_from false [] bytes else orders_from is_first (line ++ byte ∷ []) bytes
+-- the objects of those, among these lines, that tell how long a child was down; or of the others, which tell orders. The first line has
+-- begun so
+abbrev pub objects_from : Bool → Bool → List ℕ → List ℕ → List ℕ
+objects_from asks_down is_first line [] = []
+objects_from asks_down is_first line (byte ∷ bytes) =
+    if byte == 10 then next_object asks_down is_first line ++ objects_from asks_down (is_first && not (is_among asks_down line)) [] bytes
+    else objects_from asks_down is_first (line ++ byte ∷ []) bytes
 
-unfoldable pub orders_array : List ℕ → List ℕ
-orders_array told = codes "[" ++ orders_from true [] told ++ codes "]"
+unfoldable pub objects_array : Bool → List ℕ → List ℕ
+objects_array asks_down told = codes "[" ++ objects_from asks_down true [] told ++ codes "]"
 
 -- what became of a line, in words
 unfoldable pub result_text : ActionEnd → List ℕ
 result_text taken.Done = codes "done"
 result_text taken = taken_text taken
 
--- a line that was played: its number and text, what became of it, and the orders that followed
+-- a line that was played: its number and text, what became of it, the orders that followed, and which children were up again
 unfoldable pub line_object : Played → List ℕ
 line_object one =
     number_member (codes "{") (codes "line") one.number ++ text_member (codes ", ") (codes "text") one.line.items
     ++ text_member (codes ", ") (codes "result") (result_text one.outcome.taken)
-    ++ key_text (codes ", ") (codes "orders") ++ orders_array one.told.items ++ codes "}"
+    ++ key_text (codes ", ") (codes "orders") ++ objects_array false one.told.items
+    ++ key_text (codes ", ") (codes "down") ++ objects_array true one.told.items ++ codes "}"
 
 abbrev pub lines_text : Bool → List Played → List ℕ
 lines_text is_first [] = []
@@ -160,8 +178,8 @@ unfoldable pub end_word : TryEnd → List ℕ
 end_word end.Done = codes "done"
 end_word (end.ExpectationFailed _) = codes "unmet"
 end_word (end.LineRefused _ _) = codes "refused"
-end_word (end.LineMissed _ _) = codes "missed"
-end_word (end.LeftOut _ _) = codes "missed"
+end_word (end.LineMissed _ _ _) = codes "missed"
+end_word (end.LeftOut _ _ _) = codes "missed"
 end_word end.NothingPlayed = codes "nothing"
 end_word end.HistoryFull = codes "stopped"
 end_word end.InputFailed = codes "stopped"
@@ -172,8 +190,8 @@ unfoldable pub end_line : TryEnd → Option ℕ
 end_line end.Done = None
 end_line (end.ExpectationFailed line) = Some line
 end_line (end.LineRefused line _) = Some line
-end_line (end.LineMissed line _) = Some line
-end_line (end.LeftOut line _) = Some line
+end_line (end.LineMissed line _ _) = Some line
+end_line (end.LeftOut line _ _) = Some line
 end_line end.NothingPlayed = None
 end_line end.HistoryFull = None
 end_line end.InputFailed = None
@@ -185,8 +203,8 @@ unfoldable pub end_why : TryEnd → List ℕ
 end_why end.Done = []
 end_why (end.ExpectationFailed _) = taken_text taken.Unmet
 end_why (end.LineRefused _ why) = fault_text why
-end_why (end.LineMissed _ why) = taken_text why
-end_why (end.LeftOut _ why) = taken_text why
+end_why (end.LineMissed _ why _) = taken_text why
+end_why (end.LeftOut _ why _) = taken_text why
 end_why end.NothingPlayed = codes "no line says what happens"
 end_why end.HistoryFull = []
 end_why end.InputFailed = []
@@ -198,15 +216,21 @@ end_members end =
     text_member (codes "], ") (codes "end") (end_word end) ++ optional_member (codes ", ") (codes "at") (end_line end)
     ++ text_if (codes "why") (end_why end) ++ codes "}\n"
 
--- the whole: the file, the opening, the lines, how the supervisors stand, of which these have a process, and the end
-unfoldable pub run_text : List ℕ → Account → List Seated → List Bool → List ℕ
-run_text name account seats running =
-    text_member (codes "{") (codes "file") name
-    ++ key_text (codes ", ") (codes "opening") ++ orders_array account.opening.told.items
+-- the opening, the lines, how the supervisors stand, of which these have a process, and the end
+unfoldable pub run_members : Account → List Seated → List Bool → List ℕ
+run_members account seats running =
+    key_text (codes ", ") (codes "opening") ++ objects_array false account.opening.told.items
     ++ key_text (codes ", ") (codes "lines") ++ codes "[" ++ lines_text true account.lines.items
     ++ key_text (codes "], ") (codes "supervisors") ++ codes "[" ++ supervisors_text (is_played account.end) true [] seats running
     ++ end_members account.end
 
--- a run is told so; the root has a process
+-- a run is told so behind the front of its object; the root has a process
+abbrev pub TellsBehind : List ℕ → Account → List ℕ → Type 0
+TellsBehind front account text = (others : List Bool) × (text ≡ front ++ run_members account account.trial.seats (true ∷ others))
+
+-- the whole: the file, and the run
+unfoldable pub file_front : List ℕ → List ℕ
+file_front name = text_member (codes "{") (codes "file") name
+
 abbrev pub TellsRun : List ℕ → Account → List ℕ → Type 0
-TellsRun name account text = (others : List Bool) × (text ≡ run_text name account account.trial.seats (true ∷ others))
+TellsRun name account text = TellsBehind (file_front name) account text

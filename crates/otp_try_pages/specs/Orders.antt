@@ -47,6 +47,10 @@ is_child_verb verb = bytes_eq verb (codes "start") || bytes_eq verb (codes "ask"
 unfoldable pub number_in : List ℕ → Option ℕ
 number_in word = number_up_to (2 ^ 64 - 1) (without_front 1 word)
 
+-- how long a child was down: `1.500 s  pool/a was down 0.500 s` tells it in the place of an order
+unfoldable pub is_down : List ℕ → Bool
+is_down order = bytes_eq (first_word (rest_of order)) (codes "was") && bytes_eq (first_word (rest_of (rest_of order))) (codes "down")
+
 -- an order of a supervisor below the root, which ends since its parent asked for it
 unfoldable pub is_bystander : List ℕ → Bool
 is_bystander order = has_slash (first_word order) && bytes_eq (own_part order) (codes "end shutdown: asked to stop")

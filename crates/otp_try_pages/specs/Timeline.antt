@@ -1,24 +1,27 @@
 -- A run of a script, as a page (own).
 use Rattle.std.specs.Prelude.{◌≡◌, Bool, true, ℕ, ◌-◌, ◌^◌, ◌==◌, List, [], ◌∷◌, ◌++◌, codes, decimal, if◌then◌else◌}
 use Rattle.std.specs.List.{flat_map}
-use Rattle.otp_account.specs.declared.account.Account.{Account}
-use Rattle.otp_account.specs.declared.account.Played.{Played}
-use Rattle.otp_html.specs.Frame.{foot_text, head_text}
-use Rattle.otp_html.specs.Markup.{element}
-use Rattle.otp_limits.specs.Falls.{supervisor_path}
+use Rattle.otp_try.specs.declared.account.account.Account.{Account}
+use Rattle.otp_try.specs.declared.account.account.Played.{Played}
+use Rattle.otp_pages.specs.Frame.{foot_text, head_text}
+use Rattle.otp_pages.specs.Markup.{element}
+use Rattle.otp_costs.specs.Falls.{supervisor_path}
 use Rattle.otp_pages.specs.Trees.{limit_words}
 use Rattle.otp_spec.specs.Words.{strategy_word}
 use Rattle.otp_spec.specs.declared.flags.SupFlags.{SupFlags}
-use Rattle.otp_timeline.specs.Seconds.{seconds_text}
+use Rattle.otp_text.specs.Seconds.{seconds_text}
 use Rattle.otp_trial.specs.Played.{Seated}
 use Rattle.otp_trial.specs.Taken.{taken_text}
-use Rattle.otp_telling.specs.declared.strain.Strain.{Strain}
+use Rattle.otp_trial.specs.declared.story.strain.Strain.{Strain}
 use Rattle.otp_trial.specs.declared.trial.ActionEnd.{ActionEnd}
 use Rattle.otp_trial.specs.declared.trial.ActionEnd.TheVariants as taken
-use Rattle.otp_remarks.specs.Verdict.{whole_verdict}
+use Rattle.otp_try.specs.Verdict.{whole_verdict}
 use Rattle.otp_try_pages.specs.Cells.{cells_html, greatest}
+use Rattle.otp_try_pages.specs.Names.{all_told, names_from}
 use Rattle.otp_try_pages.specs.Objects.{is_played}
-use Rattle.otp_try_pages.specs.Orders.{is_end}
+use Rattle.otp_try_pages.specs.Orders.{is_down, is_end, order_in}
+use Rattle.otp_try_pages.specs.Tracks.{picture_html}
+use Rattle.otp_try_pages.specs.Windows.{windows_html}
 
 -- how a supervisor restarts its children, with which the title of its column ends
 unfoldable pub title_words : SupFlags → List ℕ
@@ -49,11 +52,14 @@ unfoldable pub sums_opening : List ℕ
 sums_opening = codes "</tbody>\n<tfoot><tr><th scope=\"row\" colspan=\"2\">in the whole run</th>\n"
 
 unfoldable pub sums_row : List Seated → List ℕ
-sums_row seats = sums_opening ++ flat_map sum_cell seats ++ codes "</tr></tfoot>\n</table>\n"
+sums_row seats = sums_opening ++ flat_map sum_cell seats ++ codes "</tr></tfoot>\n</table>\n</details>\n"
 
--- a line that tells the end of a supervisor
+-- a line that tells how long a child was down, or the end of a supervisor
 unfoldable pub end_if : List ℕ → List ℕ
-end_if line = if is_end line then element (codes "<span class=\"end\">") line (codes "</span>") else []
+end_if line =
+    if is_down (order_in line) then element (codes "<small>") line (codes "</small>")
+    else if is_end line then element (codes "<span class=\"end\">") line (codes "</span>")
+    else []
 
 -- those among lines, the first of which has begun so
 abbrev pub ends_from : List ℕ → List ℕ → List ℕ
@@ -88,7 +94,7 @@ rows_html last seats [] = []
 rows_html last seats (one ∷ lines) = row_html last seats one ++ rows_html (greatest one.moment) seats lines
 
 unfoldable pub timeline_legend : List ℕ
-timeline_legend = codes "<p class=\"legend\">A row for each line of the script: how all stood after it. <span class=\"up\">#N</span>: the child runs as process N; <b class=\"new\">*</b> it was started since the row before. <span class=\"way\">It is on its way</span>, <span class=\"down\">it has no process</span>. N/M restarts: N of M lie in the period.</p>\n"
+timeline_legend = codes "<details><summary>Line by line</summary>\n<p class=\"legend\">A row for each line of the script, and of each supervisor the children that it changed or that don't run; all others run on. <b class=\"new\">*</b> <span class=\"up\">#N</span>: it was started since the row before, and runs as process N. <span class=\"way\">It is on its way</span>, <span class=\"down\">it has no process</span>. N/M restarts: N of M lie in the period.</p>\n"
 
 -- a line of a verdict
 unfoldable pub verdict_line : List ℕ → List ℕ
@@ -100,13 +106,31 @@ verdict_from line [] = []
 verdict_from line (byte ∷ bytes) =
     if byte == 10 then verdict_line line ++ verdict_from [] bytes else verdict_from (line ++ byte ∷ []) bytes
 
--- the page of a run of these supervisors with this verdict, whose tree file has this name. At the opening none is marked as new.
+-- when the last of these lines was played
+abbrev pub last_time : ℕ → List Played → ℕ
+last_time time [] = time
+last_time time (one ∷ lines) = last_time one.moment.time lines
+
+-- when each child had a process, and how full the periods of supervisors were, with time to scale
+unfoldable pub told_pictures : List Seated → Account → List ℕ → List ℕ
+told_pictures seats account told =
+    picture_html (last_time account.opening.moment.time account.lines.items) seats account.lines.items (names_from [] [] told) told
+    ++ windows_html (last_time account.opening.moment.time account.lines.items) seats account.lines.items told
+
+unfoldable pub pictures : List Seated → Account → List ℕ
+pictures seats account = told_pictures seats account (all_told account)
+
+-- line by line: the opening, each line, and how the supervisors came through
+unfoldable pub lines_html : List Seated → Account → List ℕ
+lines_html seats account =
+    timeline_legend ++ titles_html seats ++ row_html 0 seats account.opening
+    ++ rows_html (greatest account.opening.moment) seats account.lines.items
+    ++ sums_row seats
+
+-- the page of a run of these supervisors with this verdict, whose tree file has this name. At the opening all that run are new.
 unfoldable pub timeline_page : List ℕ → List Seated → Account → List ℕ → List ℕ
 timeline_page name seats account verdict =
-    head_text (codes "A run of") name ++ verdict_from [] verdict ++ timeline_legend ++ titles_html seats
-    ++ row_html (2 ^ 64 - 1) seats account.opening
-    ++ rows_html (greatest account.opening.moment) seats account.lines.items
-    ++ sums_row seats ++ foot_text
+    head_text (codes "A run of") name ++ verdict_from [] verdict ++ pictures seats account ++ lines_html seats account ++ foot_text
 
 -- a page tells a run so; the root has a process
 abbrev pub TellsPage : List ℕ → Account → List ℕ → Type 0

@@ -2,14 +2,14 @@
 
 ghost use Rattle.std.specs.Prelude.{◌≡◌, ◌++◌, OnOk, decimal};
 ghost use Rattle.std.specs.List.{flat_map};
-ghost use Rattle.otp_try_pages.specs.Cells.{cells_html, chip_class, chip_html, greatest, greatest_in, greatest_of, id_text, is_new, larger, new_mark, process_words, standing_cell, use_html};
+ghost use Rattle.otp_try_pages.specs.Cells.{cells_html, chip_class, chip_html, chip_if, greatest, greatest_in, greatest_of, id_text, is_new, is_told, larger, new_mark, process_words, standing_cell, use_html};
 
-use otp_html::put_element;
+use otp_pages::html::put_element;
 use otp_reason::Name;
 use otp_table::RowState;
+use otp_text::timeline::{Mark, Moment, Standing};
 use otp_text::{write_name, write_number};
-use otp_timeline::{Mark, Moment, Standing};
-use otp_trial::Seat;
+use otp_trial::TriedSupervisor;
 use std::alloc::AllocError;
 
 /// The greater of two numbers, of which there may be no second.
@@ -142,6 +142,31 @@ fn put_chip(last: u64, mark: &Mark, word: &mut Vec<u8>, out: &mut Vec<u8>) -> Re
     out.extend_from_slice(b"</span>")
 }
 
+/// Whether a row tells of a child: it was started since, or doesn't run.
+#[tactic(auto, unfolding(crate::specs::Cells::is_told))]
+fn is_told(last: u64, state: RowState) -> bool
+    ensures { result ≡ is_told last state }
+{
+    is_new(last, state) || !state.is_up()
+}
+
+/// Appends what is said of a child, unless it runs on. The word is a place for a text.
+#[tactic(auto, unfolding(crate::specs::Cells::chip_if))]
+fn put_chip_if(
+    last: u64,
+    mark: &Mark,
+    word: &mut Vec<u8>,
+    out: &mut Vec<u8>,
+) -> Result<(), AllocError>
+    ensures { OnOk result (out.new.items ≡ out.old.items ++ chip_if last mark.now) }
+{
+    if is_told(last, mark.state) {
+        put_chip(last, mark, word, out)
+    } else {
+        Ok(())
+    }
+}
+
 /// Appends what is said of children.
 fn put_chips(
     last: u64,
@@ -149,10 +174,10 @@ fn put_chips(
     word: &mut Vec<u8>,
     out: &mut Vec<u8>,
 ) -> Result<(), AllocError>
-    ensures { OnOk result (out.new.items ≡ out.old.items ++ flat_map (chip_html last) marks.now) }
+    ensures { OnOk result (out.new.items ≡ out.old.items ++ flat_map (chip_if last) marks.now) }
 {
     for mark in marks {
-        put_chip(last, mark, word, out)?;
+        put_chip_if(last, mark, word, out)?;
     }
     Ok(())
 }
@@ -193,7 +218,7 @@ fn put_standing(
 #[tactic(auto, unfolding(crate::specs::Cells::cells_html))]
 pub(crate) fn put_cells(
     last: u64,
-    seats: &[Seat],
+    seats: &[TriedSupervisor],
     standings: &[Standing],
     word: &mut Vec<u8>,
     out: &mut Vec<u8>,

@@ -4,12 +4,12 @@ ghost use Rattle.std.specs.Prelude.{◌≡◌, ◌++◌, OnOk};
 ghost use Rattle.std.specs.List.{flat_map};
 ghost use Rattle.otp_try_pages.specs.Timeline.{give_ups_html, most_html, sum_cell, sums_opening, sums_row, title_cell, title_words, titles_html, titles_opening};
 
-use otp_html::put_element;
-use otp_limits::supervisor_path;
+use otp_costs::limits::supervisor_path;
+use otp_pages::html::put_element;
 use otp_pages::put_limit;
 use otp_spec::SupFlags;
 use otp_text::write_number;
-use otp_trial::{Seat, Strain};
+use otp_trial::{Strain, TriedSupervisor};
 use std::alloc::AllocError;
 
 /// Appends how a supervisor restarts its children, with which the title of its column ends.
@@ -25,7 +25,7 @@ fn put_title_words(flags: &SupFlags, out: &mut Vec<u8>) -> Result<(), AllocError
 
 /// Appends the title of a supervisor's column: its path, and how it restarts its children.
 #[tactic(auto, unfolding(crate::specs::Timeline::title_cell))]
-fn put_title(seat: &Seat, out: &mut Vec<u8>) -> Result<(), AllocError>
+fn put_title(seat: &TriedSupervisor, out: &mut Vec<u8>) -> Result<(), AllocError>
     ensures { OnOk result (out.new.items ≡ out.old.items ++ title_cell seat.now) }
 {
     put_element(
@@ -38,7 +38,7 @@ fn put_title(seat: &Seat, out: &mut Vec<u8>) -> Result<(), AllocError>
 }
 
 /// Appends the titles of the supervisors' columns.
-fn put_seat_titles(seats: &[Seat], out: &mut Vec<u8>) -> Result<(), AllocError>
+fn put_seat_titles(seats: &[TriedSupervisor], out: &mut Vec<u8>) -> Result<(), AllocError>
     ensures { OnOk result (out.new.items ≡ out.old.items ++ flat_map title_cell seats.now) }
 {
     for seat in seats {
@@ -59,7 +59,7 @@ fn put_titles_opening(out: &mut Vec<u8>) -> Result<(), AllocError>
 
 /// Appends the titles of all columns.
 #[tactic(auto, unfolding(crate::specs::Timeline::titles_html))]
-pub(crate) fn put_titles(seats: &[Seat], out: &mut Vec<u8>) -> Result<(), AllocError>
+pub(crate) fn put_titles(seats: &[TriedSupervisor], out: &mut Vec<u8>) -> Result<(), AllocError>
     ensures { OnOk result (out.new.items ≡ out.old.items ++ titles_html seats.now) }
 {
     put_titles_opening(out)?;
@@ -93,7 +93,7 @@ fn put_most(intensity: u64, strain: Strain, out: &mut Vec<u8>) -> Result<(), All
 
 /// Appends how a supervisor came through the run.
 #[tactic(auto, unfolding(crate::specs::Timeline::sum_cell))]
-fn put_sum(seat: &Seat, out: &mut Vec<u8>) -> Result<(), AllocError>
+fn put_sum(seat: &TriedSupervisor, out: &mut Vec<u8>) -> Result<(), AllocError>
     ensures { OnOk result (out.new.items ≡ out.old.items ++ sum_cell seat.now) }
 {
     put_most(seat.flags().intensity, seat.strain(), out)?;
@@ -103,7 +103,7 @@ fn put_sum(seat: &Seat, out: &mut Vec<u8>) -> Result<(), AllocError>
 }
 
 /// Appends how supervisors came through the run.
-fn put_seat_sums(seats: &[Seat], out: &mut Vec<u8>) -> Result<(), AllocError>
+fn put_seat_sums(seats: &[TriedSupervisor], out: &mut Vec<u8>) -> Result<(), AllocError>
     ensures { OnOk result (out.new.items ≡ out.old.items ++ flat_map sum_cell seats.now) }
 {
     for seat in seats {
@@ -124,10 +124,10 @@ fn put_sums_opening(out: &mut Vec<u8>) -> Result<(), AllocError>
 
 /// Appends the last row: how supervisors came through the run.
 #[tactic(auto, unfolding(crate::specs::Timeline::sums_row))]
-pub(crate) fn put_sums(seats: &[Seat], out: &mut Vec<u8>) -> Result<(), AllocError>
+pub(crate) fn put_sums(seats: &[TriedSupervisor], out: &mut Vec<u8>) -> Result<(), AllocError>
     ensures { OnOk result (out.new.items ≡ out.old.items ++ sums_row seats.now) }
 {
     put_sums_opening(out)?;
     put_seat_sums(seats, out)?;
-    out.extend_from_slice(b"</tr></tfoot>\n</table>\n")
+    out.extend_from_slice(b"</tr></tfoot>\n</table>\n</details>\n")
 }

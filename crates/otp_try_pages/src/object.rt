@@ -1,14 +1,14 @@
 //! A run as an object.
 
 ghost use Rattle.std.specs.Prelude.{◌≡◌, ℕ, List, ◌++◌, IfOk, OnErr, OnOk, true};
-ghost use Rattle.otp_try_pages.specs.Objects.{TellsRun, end_line, end_members, end_why, end_word, is_played, line_object, lines_text, result_text, run_text};
+ghost use Rattle.otp_try_pages.specs.Objects.{TellsBehind, TellsRun, end_line, end_members, end_why, end_word, file_front, is_played, line_object, lines_text, result_text, run_members};
 
-use crate::order::{put_comma, put_orders};
+use crate::order::{put_comma, put_objects};
 use crate::supervisors::{put_supervisors, put_text_if};
-use otp_account::{Account, Played};
 use otp_json::{put_key, put_number, put_optional, put_text};
-use otp_trial::{ActionEnd, Seat};
+use otp_trial::{ActionEnd, TriedSupervisor};
 use otp_try::TryEnd;
+use otp_try::account::{Account, Played};
 use std::alloc::{AllocError, Global};
 
 /// What became of a line, in words.
@@ -36,7 +36,9 @@ fn put_line(one: &Played, word: &mut Vec<u8>, out: &mut Vec<u8>) -> Result<(), A
         out,
     )?;
     put_key(b", ", b"orders", out)?;
-    put_orders(one.told.as_slice(), word, out)?;
+    put_objects(false, one.told.as_slice(), word, out)?;
+    put_key(b", ", b"down", out)?;
+    put_objects(true, one.told.as_slice(), word, out)?;
     out.extend_from_slice(b"}")
 }
 
@@ -85,7 +87,7 @@ fn end_line(end: TryEnd) -> Option<u64>
     match end {
         TryEnd::ExpectationFailed(line) => Some(line),
         TryEnd::LineRefused(line, _) => Some(line),
-        TryEnd::LineMissed(line, _) | TryEnd::LeftOut(line, _) => Some(line),
+        TryEnd::LineMissed(line, ..) | TryEnd::LeftOut(line, ..) => Some(line),
         TryEnd::Done
         | TryEnd::NothingPlayed
         | TryEnd::HistoryFull
@@ -103,7 +105,7 @@ fn end_why(end: TryEnd) -> &'static str
     match end {
         TryEnd::ExpectationFailed(_) => ActionEnd::Unmet.text(),
         TryEnd::LineRefused(_, why) => why.text(),
-        TryEnd::LineMissed(_, why) | TryEnd::LeftOut(_, why) => why.text(),
+        TryEnd::LineMissed(_, why, _) | TryEnd::LeftOut(_, why, _) => why.text(),
         TryEnd::NothingPlayed => "no line says what happens",
         TryEnd::Done
         | TryEnd::HistoryFull
@@ -124,21 +126,19 @@ fn put_end(end: TryEnd, out: &mut Vec<u8>) -> Result<(), AllocError>
     out.extend_from_slice(b"}\n")
 }
 
-/// Appends the object of a run, a line. The word is a place for a text.
-#[tactic(auto, unfolding(crate::specs::Objects::run_text))]
+/// Appends a run behind the front of its object, which ends the line. The word is a place for a text.
+#[tactic(auto, unfolding(crate::specs::Objects::run_members))]
 fn put_run(
-    name: &[u8],
     account: &Account,
-    seats: &[Seat],
+    seats: &[TriedSupervisor],
     running: &[bool],
     word: &mut Vec<u8>,
     out: &mut Vec<u8>,
 ) -> Result<(), AllocError>
-    ensures { OnOk result (out.new.items ≡ out.old.items ++ run_text name.now account.now seats.now running.now) }
+    ensures { OnOk result (out.new.items ≡ out.old.items ++ run_members account.now seats.now running.now) }
 {
-    put_text(b"{", b"file", name, out)?;
     put_key(b", ", b"opening", out)?;
-    put_orders(account.opening.told.as_slice(), word, out)?;
+    put_objects(false, account.opening.told.as_slice(), word, out)?;
     put_key(b", ", b"lines", out)?;
     out.extend_from_slice(b"[")?;
     put_lines(account.lines.as_slice(), word, out)?;
@@ -148,15 +148,18 @@ fn put_run(
     put_end(account.end, out)
 }
 
-/// The object of a run, whose tree file has this name.
-fn object_of(alloc: Global, name: &[u8], account: &Account) -> Result<Vec<u8>, AllocError>
-    ensures { IfOk result (λ text. TellsRun name.now account.now text.items) }
+/// The object of a run, with this front.
+pub(crate) fn object_behind(
+    alloc: Global,
+    front: Vec<u8>,
+    account: &Account,
+) -> Result<Vec<u8>, AllocError>
+    ensures { IfOk result (λ text. TellsBehind front.items account.now text.items) }
 {
     let mut word = Vec::new(alloc);
-    let mut text = Vec::new(alloc);
+    let mut text = front;
     let running = account.trial.running()?;
     put_run(
-        name,
         account,
         account.trial.seats(),
         running.as_slice(),
@@ -164,6 +167,23 @@ fn object_of(alloc: Global, name: &[u8], account: &Account) -> Result<Vec<u8>, A
         &mut text,
     )?;
     Ok(text)
+}
+
+/// Appends the front of the object of a run, whose tree file has this name.
+#[tactic(auto, unfolding(crate::specs::Objects::file_front))]
+pub(crate) fn put_front(name: &[u8], out: &mut Vec<u8>) -> Result<(), AllocError>
+    ensures { OnOk result (out.new.items ≡ out.old.items ++ file_front name.now) }
+{
+    put_text(b"{", b"file", name, out)
+}
+
+/// The object of a run, whose tree file has this name.
+fn object_of(alloc: Global, name: &[u8], account: &Account) -> Result<Vec<u8>, AllocError>
+    ensures { IfOk result (λ text. TellsRun name.now account.now text.items) }
+{
+    let mut front = Vec::new(alloc);
+    put_front(name, &mut front)?;
+    object_behind(alloc, front, account)
 }
 
 /// Appends a run of a script, as an object with the name of the tree's file: the orders of the opening, then those of each line,

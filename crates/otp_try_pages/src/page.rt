@@ -1,20 +1,23 @@
 //! A run as a page.
 
 ghost use Rattle.std.specs.Prelude.{ℕ, List, ◌≡◌, ◌++◌, IfOk, OnErr, OnOk, decimal};
-ghost use Rattle.otp_timeline.specs.Seconds.{seconds_text};
+ghost use Rattle.otp_text.specs.Seconds.{seconds_text};
 ghost use Rattle.otp_try_pages.specs.Orders.{is_bystander, is_end};
-ghost use Rattle.otp_try_pages.specs.Timeline.{TellsPage, end_if, ends_from, failed_html, line_cell, number_text, row_html, rows_html, time_cell, timeline_legend, timeline_page, verdict_from, verdict_line};
+ghost use Rattle.otp_try_pages.specs.Timeline.{TellsPage, end_if, ends_from, failed_html, last_time, line_cell, lines_html, number_text, pictures, row_html, rows_html, time_cell, timeline_legend, timeline_page, told_pictures, verdict_from, verdict_line};
 
 use crate::cells::{greatest, put_cells};
 use crate::columns::{put_sums, put_titles};
+use crate::names::{all_told, names_in};
 use crate::object::is_played;
-use crate::words::{first_word, has_slash, is_text, order_in, own_part};
-use otp_account::{Account, Played};
-use otp_html::{put_element, put_foot, put_head};
-use otp_remarks::write_trial_verdict;
+use crate::tracks::put_picture;
+use crate::windows::put_windows;
+use crate::words::{first_word, has_slash, is_down, is_text, order_in, own_part};
+use otp_pages::html::{put_element, put_foot, put_head};
+use otp_text::timeline::write_seconds;
 use otp_text::write_number;
-use otp_timeline::write_seconds;
-use otp_trial::{ActionEnd, Seat};
+use otp_trial::{ActionEnd, TriedSupervisor};
+use otp_try::account::{Account, Played};
+use otp_try::remarks::write_trial_verdict;
 use std::alloc::{AllocError, Global};
 
 /// Whether an order is that of a supervisor below the root which ends since its parent asked for it.
@@ -34,19 +37,21 @@ fn is_end(line: &[u8]) -> bool
     is_text(first_word(own_part(order)), b"end") && !is_bystander(order)
 }
 
-/// Appends a line that tells the end of a supervisor; nothing of another.
+/// Appends a line that tells how long a child was down, or the end of a supervisor; nothing of another.
 #[tactic(auto, unfolding(crate::specs::Timeline::end_if))]
 fn put_end_if(line: &[u8], out: &mut Vec<u8>) -> Result<(), AllocError>
     ensures { OnOk result (out.new.items ≡ out.old.items ++ end_if line.now) }
 {
-    if is_end(line) {
+    if is_down(order_in(line)) {
+        put_element(b"<small>", line, b"</small>", out)
+    } else if is_end(line) {
         put_element(b"<span class=\"end\">", line, b"</span>", out)
     } else {
         Ok(())
     }
 }
 
-/// Appends the ends of supervisors among these lines, the first of which has begun so.
+/// Appends those among these lines, the first of which has begun so.
 fn put_ends(told: &[u8], line: &mut Vec<u8>, out: &mut Vec<u8>) -> Result<(), AllocError>
     ensures { OnOk result (out.new.items ≡ out.old.items ++ ends_from line.old.items told.now) }
 {
@@ -142,7 +147,7 @@ fn put_line(one: &Played, word: &mut Vec<u8>, out: &mut Vec<u8>) -> Result<(), A
 #[tactic(auto, unfolding(crate::specs::Timeline::row_html))]
 fn put_row(
     last: u64,
-    seats: &[Seat],
+    seats: &[TriedSupervisor],
     one: &Played,
     word: &mut Vec<u8>,
     out: &mut Vec<u8>,
@@ -158,7 +163,7 @@ fn put_row(
 /// Appends the rows of lines, before which this was the greatest number of a process.
 fn put_rows(
     last: u64,
-    seats: &[Seat],
+    seats: &[TriedSupervisor],
     lines: &[Played],
     word: &mut Vec<u8>,
     out: &mut Vec<u8>,
@@ -179,7 +184,7 @@ fn put_legend(out: &mut Vec<u8>) -> Result<(), AllocError>
     ensures { OnOk result (out.new.items ≡ out.old.items ++ timeline_legend) }
 {
     out.extend_from_slice(
-        b"<p class=\"legend\">A row for each line of the script: how all stood after it. <span class=\"up\">#N</span>: the child runs as process N; <b class=\"new\">*</b> it was started since the row before. <span class=\"way\">It is on its way</span>, <span class=\"down\">it has no process</span>. N/M restarts: N of M lie in the period.</p>\n",
+        b"<details><summary>Line by line</summary>\n<p class=\"legend\">A row for each line of the script, and of each supervisor the children that it changed or that don't run; all others run on. <b class=\"new\">*</b> <span class=\"up\">#N</span>: it was started since the row before, and runs as process N. <span class=\"way\">It is on its way</span>, <span class=\"down\">it has no process</span>. N/M restarts: N of M lie in the period.</p>\n",
     )
 }
 
@@ -206,11 +211,88 @@ fn put_verdict(verdict: &[u8], line: &mut Vec<u8>, out: &mut Vec<u8>) -> Result<
     Ok(())
 }
 
+/// When the last of these lines was played.
+fn last_time(opening: u64, lines: &[Played]) -> u64
+    ensures { result ≡ last_time opening lines.now }
+{
+    let mut time = opening;
+    for one in lines {
+        time = one.moment.time;
+    }
+    time
+}
+
+/// Appends what the pictures of a run show that told these lines. The word is a place for a text.
+#[tactic(auto, unfolding(crate::specs::Timeline::told_pictures))]
+fn put_told_pictures(
+    alloc: Global,
+    seats: &[TriedSupervisor],
+    account: &Account,
+    told: &[u8],
+    word: &mut Vec<u8>,
+    out: &mut Vec<u8>,
+) -> Result<(), AllocError>
+    ensures { OnOk result (out.new.items ≡ out.old.items ++ told_pictures seats.now account.now told.now) }
+{
+    let last = last_time(account.opening.moment.time, account.lines.as_slice());
+    let names = names_in(alloc, told)?;
+    put_picture(
+        alloc,
+        last,
+        seats,
+        account.lines.as_slice(),
+        names.as_slice(),
+        told,
+        word,
+        out,
+    )?;
+    put_windows(last, seats, account.lines.as_slice(), told, word, out)
+}
+
+/// Appends the pictures of a run. The word is a place for a text.
+#[tactic(auto, unfolding(crate::specs::Timeline::pictures))]
+fn put_pictures(
+    alloc: Global,
+    seats: &[TriedSupervisor],
+    account: &Account,
+    word: &mut Vec<u8>,
+    out: &mut Vec<u8>,
+) -> Result<(), AllocError>
+    ensures { OnOk result (out.new.items ≡ out.old.items ++ pictures seats.now account.now) }
+{
+    let told = all_told(alloc, account)?;
+    put_told_pictures(alloc, seats, account, told.as_slice(), word, out)
+}
+
+/// Appends the opening and each line, and how the supervisors came through. The word is a place for a text.
+#[tactic(auto, unfolding(crate::specs::Timeline::lines_html))]
+fn put_lines(
+    seats: &[TriedSupervisor],
+    account: &Account,
+    word: &mut Vec<u8>,
+    out: &mut Vec<u8>,
+) -> Result<(), AllocError>
+    ensures { OnOk result (out.new.items ≡ out.old.items ++ lines_html seats.now account.now) }
+{
+    put_legend(out)?;
+    put_titles(seats, out)?;
+    put_row(0, seats, &account.opening, word, out)?;
+    put_rows(
+        greatest(&account.opening.moment),
+        seats,
+        account.lines.as_slice(),
+        word,
+        out,
+    )?;
+    put_sums(seats, out)
+}
+
 /// Appends the page of a run with this verdict, whose tree file has this name. The word is a place for a text.
 #[tactic(auto, unfolding(crate::specs::Timeline::timeline_page))]
 fn put_page(
+    alloc: Global,
     name: &[u8],
-    seats: &[Seat],
+    seats: &[TriedSupervisor],
     account: &Account,
     verdict: &[u8],
     word: &mut Vec<u8>,
@@ -221,17 +303,8 @@ fn put_page(
     word.clear();
     put_head(b"A run of", name, out)?;
     put_verdict(verdict, word, out)?;
-    put_legend(out)?;
-    put_titles(seats, out)?;
-    put_row(u64::MAX, seats, &account.opening, word, out)?;
-    put_rows(
-        greatest(&account.opening.moment),
-        seats,
-        account.lines.as_slice(),
-        word,
-        out,
-    )?;
-    put_sums(seats, out)?;
+    put_pictures(alloc, seats, account, word, out)?;
+    put_lines(seats, account, word, out)?;
     put_foot(out)
 }
 
@@ -244,6 +317,7 @@ fn page_of(alloc: Global, name: &[u8], account: &Account) -> Result<Vec<u8>, All
     let mut page = Vec::new(alloc);
     write_trial_verdict(&account.trial, is_played(account.end), &mut verdict)?;
     put_page(
+        alloc,
         name,
         account.trial.seats(),
         account,
@@ -254,7 +328,8 @@ fn page_of(alloc: Global, name: &[u8], account: &Account) -> Result<Vec<u8>, All
     Ok(page)
 }
 
-/// Appends a run of a script as a page of HTML, with the name of the tree's file: the verdict; a row for the opening and for each line, with how
+/// Appends a run of a script as a page of HTML, with the name of the tree's file: the verdict; when each child had a process, and how full
+/// the periods of supervisors were, with time to scale; a row for the opening and for each line, with how
 /// each supervisor and its children stood then, and the ends of supervisors; and how each came through.
 ///
 /// # Errors

@@ -3,12 +3,12 @@
 ghost use Rattle.std.specs.Prelude.{◌≡◌, ◌++◌, OnOk};
 ghost use Rattle.otp_try_pages.specs.Objects.{awaits_of, bool_member, fate_if, fate_members, fate_since, fate_word, limit_members, seconds_member, supervisor_object, supervisors_text, text_if, time_after_if, verdict_members};
 
+use otp_costs::limits::supervisor_path;
 use otp_json::{put_key, put_number, put_text};
-use otp_limits::supervisor_path;
-use otp_remarks::{Fate, fate_of, write_awaits};
 use otp_spec::SupFlags;
-use otp_timeline::write_seconds;
-use otp_trial::{Seat, Strain};
+use otp_text::timeline::write_seconds;
+use otp_trial::{Strain, TriedSupervisor};
+use otp_try::remarks::{Fate, fate_of, write_awaits};
 use std::alloc::AllocError;
 
 /// Appends a member that is `true` or `false`.
@@ -133,7 +133,11 @@ fn put_verdict(
 }
 
 /// What a supervisor awaits that has a process or not. The word is a place for a text.
-fn put_awaits(is_running: bool, seat: &Seat, word: &mut Vec<u8>) -> Result<(), AllocError>
+fn put_awaits(
+    is_running: bool,
+    seat: &TriedSupervisor,
+    word: &mut Vec<u8>,
+) -> Result<(), AllocError>
     ensures { OnOk result (word.new.items ≡ awaits_of is_running seat.now) }
 {
     word.clear();
@@ -149,7 +153,7 @@ fn put_awaits(is_running: bool, seat: &Seat, word: &mut Vec<u8>) -> Result<(), A
 fn put_supervisor(
     is_played: bool,
     is_root: bool,
-    seat: &Seat,
+    seat: &TriedSupervisor,
     is_running: bool,
     word: &mut Vec<u8>,
     out: &mut Vec<u8>,
@@ -173,7 +177,7 @@ pub(crate) fn put_supervisors(
     is_played: bool,
     is_root: bool,
     front: &[u8],
-    seats: &[Seat],
+    seats: &[TriedSupervisor],
     running: &[bool],
     word: &mut Vec<u8>,
     out: &mut Vec<u8>,

@@ -2,7 +2,7 @@
 
 ghost use Rattle.std.specs.Prelude.{◌≡◌, ◌<◌, ◌==◌, IfSome, length, position};
 ghost use Rattle.std.specs.Str.{bytes_eq};
-ghost use Rattle.otp_try_pages.specs.Orders.{before, behind, first_word, has_slash, is_child_verb, number_in, order_in, own_part, path_part, rest_of, without_front};
+ghost use Rattle.otp_try_pages.specs.Orders.{before, behind, first_word, has_slash, is_child_verb, is_down, number_in, order_in, own_part, path_part, rest_of, without_front};
 
 use otp_text::read_number;
 
@@ -114,6 +114,15 @@ pub(crate) fn is_child_verb(verb: &[u8]) -> bool
     ensures { result ≡ is_child_verb verb.now }
 {
     is_text(verb, b"start") || is_text(verb, b"ask") || is_text(verb, b"kill")
+}
+
+/// Whether it is told in the place of an order how long a child was down.
+#[tactic(auto, unfolding(crate::specs::Orders::is_down))]
+pub(crate) fn is_down(order: &[u8]) -> bool
+    ensures { result ≡ is_down order.now }
+{
+    is_text(first_word(rest_of(order)), b"was")
+        && is_text(first_word(rest_of(rest_of(order))), b"down")
 }
 
 /// The number of a process, behind its `#`.

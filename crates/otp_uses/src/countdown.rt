@@ -2,7 +2,7 @@
 ghost use Rattle.std.specs.Prelude.{◌≡◌, true};
 ghost use Rattle.otp_run.specs.Lists.{AllAt};
 
-use otp_bridge::BoxedSubsystem;
+use otp_job::bridge::BoxedSubsystem;
 use otp_job::{After, Body, BoxedJob, Job, Process, Told, Turn, one_turn};
 use otp_reason::{Note, Reason, Started};
 use otp_run::{LiveTotal, RunNaming, RunQueue, SHARE_LIMIT, Scheduler, gather};

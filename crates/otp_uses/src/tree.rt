@@ -2,8 +2,9 @@
 ghost use Rattle.std.specs.Prelude.{true};
 
 use otp::{
-    Body, BoxedSubsystem, Call, Client, CountsNow, Fault, Hand, Job, Millis, Note, Reason, Reply,
-    ReplyAnswer, Session, Started, SupFlags, System, Told, TreeDraft, TreeNaming, Turn, with_tree,
+    Body, BoxedSubsystem, Call, CountsNow, Fault, Hand, Job, Millis, Note, Reason, Reply,
+    ReplyAnswer, Session, Started, SupFlags, System, Told, TreeClient, TreeDraft, TreeNaming, Turn,
+    with_tree,
 };
 use std::alloc::Global;
 use std::sync::Wait;
@@ -64,7 +65,7 @@ impl<R: Wait> Session<R, Steady, BoxedSubsystem> for UpAndDown {
         rt: &R,
         system: System<N, Steady, BoxedSubsystem>,
         hands: Vec<Hand<N, Steady, BoxedSubsystem>>,
-        client: Client<N, Body<Steady, BoxedSubsystem>>,
+        client: TreeClient<N, Body<Steady, BoxedSubsystem>>,
     ) -> Self::Output {
         let (mut hands, mut client) = (hands, client);
         let up = next_note(rt, &system, &mut hands, &mut client);
@@ -99,7 +100,7 @@ fn count_children<N, R>(
     alloc: Global,
     system: &System<N, Steady, BoxedSubsystem>,
     hands: &mut Vec<Hand<N, Steady, BoxedSubsystem>>,
-    client: &mut Client<N, Body<Steady, BoxedSubsystem>>,
+    client: &mut TreeClient<N, Body<Steady, BoxedSubsystem>>,
 ) -> Option<CountsNow>
 where
     N: TreeNaming,
@@ -119,7 +120,7 @@ fn next_note<N, R>(
     rt: &R,
     system: &System<N, Steady, BoxedSubsystem>,
     hands: &mut Vec<Hand<N, Steady, BoxedSubsystem>>,
-    client: &mut Client<N, Body<Steady, BoxedSubsystem>>,
+    client: &mut TreeClient<N, Body<Steady, BoxedSubsystem>>,
 ) -> Option<Note>
 where
     N: TreeNaming,

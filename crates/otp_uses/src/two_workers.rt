@@ -1,7 +1,7 @@
 //! A tree of jobs of one's own, whole: two workers under a supervisor.
 ghost use Rattle.std.specs.Prelude.{◌≡◌, true, length, IfOk};
 
-use otp_bridge::BoxedSubsystem;
+use otp_job::bridge::BoxedSubsystem;
 use otp_job::{Job, Told, Turn};
 use otp_reason::{Name, Reason, Started};
 use otp_spec::SupFlags;

@@ -1,6 +1,6 @@
 ghost use Rattle.std.specs.Prelude.{false};
 
-use otp::{Fault, Job, LogLines, Started, Stop, SupFlags, Told, TreeDraft, Turn, run};
+use otp::{Fault, Job, LogLines, Started, StopFlag, SupFlags, Told, TreeDraft, Turn, run};
 use std::alloc::Global;
 use std::io::Eprint;
 use std::sync::Wait;
@@ -32,7 +32,7 @@ pub fn run_until_stopped<R: Threads + Wait + Clock + Eprint + Sync>(
     rt: &R,
     alloc: Global,
 ) -> Result<u64, Fault> {
-    let (stop, log) = (Stop::new(alloc)?, LogLines::to(rt, alloc));
+    let (stop, log) = (StopFlag::new(alloc)?, LogLines::to(rt, alloc));
     let mut root: TreeDraft<Asleep> = TreeDraft::new(alloc, SupFlags::default());
     root.add_worker("db", Asleep)?;
     let (ran, ()) = thread::join(rt, || run(rt, alloc, root, 2, &stop, &log), || stop.raise());

@@ -4,10 +4,10 @@ use Rattle.std.specs.Bool.{OnTrue}
 use Rattle.std.specs.List.Sorted.{IsNonDecreasing}
 use Rattle.otp_window.specs.Kept.{kept_of}
 use Rattle.otp_window.specs.declared.limits.TheConstants.{MAX_PERIOD}
-use Rattle.otp_window.specs.View.{View}
+use Rattle.otp_window.specs.View.{WindowView}
 use Rattle.otp_window.specs.declared.Window.TheInside.{Inside}
 
-abbrev pub view_of : Inside → View
+abbrev pub view_of : Inside → WindowView
 view_of w = record { intensity = w.intensity; period = w.period; stamps = w.past.stamps; reserved = w.reserved }
 
 -- stamps never fall and the last of them are kept, a period of milliseconds fits, and what is reserved is there (own)

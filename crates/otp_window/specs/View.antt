@@ -1,7 +1,7 @@
 use Rattle.std.specs.Prelude.{ℕ, Bool, List}
 
 -- the restarts of one supervisor (Supervisor Behaviour, Maximum Restart Intensity)
-pub record View : Type 0 where
+pub record WindowView : Type 0 where
   -- how many restarts a period may have
   pub intensity : ℕ
   -- in seconds

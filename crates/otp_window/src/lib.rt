@@ -21,7 +21,7 @@ mod past;
 
 pub use crate::limits::MAX_PERIOD;
 use crate::ordered::{is_crowded_with, push_kept};
-use crate::past::{Past, with_stamp};
+use crate::past::{PastStamps, with_stamp};
 
 /// What a restart makes of the intensity.
 #[derive(Clone, Copy, Debug, PartialEq, Eq)]
@@ -40,14 +40,14 @@ pub struct Window {
     period: u64,
     kept: VecDeque<u64>,
     count: u64,
-    past: Past,
+    past: PastStamps,
     reserved: bool,
 }
 
 impl Model for Window {
-    ghost use Rattle.otp_window.specs.View.{View};
+    ghost use Rattle.otp_window.specs.View.{WindowView};
 
-    ghost Value = { View };
+    ghost Value = { WindowView };
 
     ghost use Rattle.otp_window.specs.Inside.{view_of, IsWindow};
 
@@ -57,7 +57,7 @@ impl Model for Window {
 }
 
 impl Window {
-    ghost use Rattle.otp_window.specs.View.{View};
+    ghost use Rattle.otp_window.specs.View.{WindowView};
 
     /// A window with no restarts, for at most `intensity` of them in `period` seconds, at most [`MAX_PERIOD`]. Takes no memory.
     pub fn new(alloc: Global, intensity: u64, period: u64) -> Self
@@ -69,7 +69,7 @@ impl Window {
             period,
             kept: VecDeque::new(alloc),
             count: 0,
-            past: Past::new(),
+            past: PastStamps::new(),
             reserved: false,
         }
     }
@@ -126,7 +126,7 @@ impl Window {
     {
         self.kept.clear();
         self.count = 0;
-        self.past = Past::new();
+        self.past = PastStamps::new();
     }
 
     /// Whether a restart at `now`, in milliseconds, would be one too many. Adds nothing. The answer is the same for all stamps,
@@ -154,7 +154,7 @@ impl Window {
         let is_crowded = self.would_exceed(now);
         push_kept(&mut self.kept, self.intensity, now);
         self.count = self.count.saturating_add(1);
-        self.past = with_stamp(mem::replace(&mut self.past, Past::new()), now);
+        self.past = with_stamp(mem::replace(&mut self.past, PastStamps::new()), now);
         self.reserved = false;
         if is_crowded {
             Within::Exceeded

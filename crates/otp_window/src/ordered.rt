@@ -7,13 +7,19 @@ ghost use Rattle.otp_window.specs.Kept.{kept_of};
 ghost use Rattle.otp_window.specs.Period.{in_period};
 
 use crate::limits::MAX_PERIOD;
-use crate::past::Past;
+use crate::past::PastStamps;
 use std::collections::VecDeque;
 
 /// Whether more than `limit` of all stamps and `now` after them lie in the period of `period` seconds that ends then.
 /// Since stamps never fall, that is so exactly if the stamp `limit` places before `now` does, and it is among those kept.
 #[tactic(auto, using(crate::proofs::Crowded::kept_crowded, crate::proofs::Crowded::kept_below, crate::proofs::Crowded::crowded_at_zero, crate::proofs::Crowded::kept_latest))]
-pub fn is_crowded_with(kept: &VecDeque<u64>, limit: u64, period: u64, now: u64, past: &Past) -> bool
+pub fn is_crowded_with(
+    kept: &VecDeque<u64>,
+    limit: u64,
+    period: u64,
+    now: u64,
+    past: &PastStamps,
+) -> bool
     requires kept { kept.now.items ≡ kept_of limit past.now.stamps }
     requires period { period ≤ MAX_PERIOD }
     requires ordered { IsNonDecreasing past.now.stamps }

@@ -7,49 +7,49 @@ ghost use base.Fml.{ftrue};
 use std::marker::{Model, PhantomData};
 
 /// A list of stamps that only clauses read. It has no bytes, and its methods do nothing at run time.
-pub struct Past {
+pub struct PastStamps {
     marker: PhantomData<()>,
     pub ghost stamps: { List ℕ } by { coded_list coded_ℕ },
 }
 
-impl Model for Past {
+impl Model for PastStamps {
     ghost also_owns = { λ _. ftrue };
 }
 
-impl Past {
+impl PastStamps {
     /// No stamps.
-    pub fn new() -> Past
+    pub fn new() -> PastStamps
         ensures none { result.stamps ≡ [] }
     {
-        Past {
+        PastStamps {
             marker: PhantomData,
         }
     }
 }
 
-impl Drop for Past {
+impl Drop for PastStamps {
     fn drop(self) {
         let Self { marker: _ } = self;
     }
 }
 
 // It has no bytes and owns nothing.
-unsafe impl Send for Past {}
+unsafe impl Send for PastStamps {}
 
-unsafe impl Sync for Past {}
+unsafe impl Sync for PastStamps {}
 
 /// Stamps, and the one that comes next.
 pub struct Next {
-    pub past: Past,
+    pub past: PastStamps,
     pub stamp: u64,
 }
 
 impl Next {
     // All of them.
-    fn all(&self) -> Past
+    fn all(&self) -> PastStamps
         ensures one_more { result.stamps ≡ self.now.past.stamps ++ self.now.stamp ∷ [] }
     {
-        Past {
+        PastStamps {
             marker: PhantomData,
         }
     }
@@ -62,7 +62,7 @@ impl Drop for Next {
 }
 
 /// The stamps with one more, the last.
-pub fn with_stamp(past: Past, stamp: u64) -> Past
+pub fn with_stamp(past: PastStamps, stamp: u64) -> PastStamps
     ensures { result.stamps ≡ past.stamps ++ stamp ∷ [] }
 {
     let next = Next { past, stamp };

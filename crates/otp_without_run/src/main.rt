@@ -4,7 +4,7 @@
 
 use otp_cli::words_of;
 use otp_commands::program::run;
-use otp_host::System;
+use otp_exit::host::System;
 use otp_sim::Counted;
 use std::process::ExitCode;
 

@@ -3,11 +3,11 @@ use Rattle.std.proofs.Common.{ℕ, rules}
 use Rattle.otp_driver.specs.Driven.{Driven}
 use Rattle.otp_driver.specs.declared.order.Order.{Order}
 use Rattle.otp_driver.specs.declared.session.Session.{Session}
-use Rattle.otp_driven.specs.Members.{state_in}
+use Rattle.otp_driver.specs.Members.{state_in}
 use Rattle.otp_driver.specs.Orders.{what_of}
 use Rattle.otp_driver.specs.Sessions.{IsReadied, Readied, Told}
 use Rattle.otp_driver.proofs.Tellings.{keeps_what}
-use Rattle.otp_shapes.specs.Orders.{ShowsOrder}
+use Rattle.otp_c.specs.Orders.{ShowsOrder}
 use Rattle.otp_c.proofs.next.Goals as goal
 
 pub took-requires : goal.took-requires

@@ -103,7 +103,7 @@ fn words_of_tally(tally: &Tally) -> String {
     words
 }
 
-/// The same for machines.
+/// How often a child was started, and how its last life ended, for machines.
 fn tally_json(tally: &Tally) -> String {
     let mut text = format!(",\"starts\":{}", tally.starts);
     if let Some(Last { at, text: last, has_begun, .. }) = &tally.last {

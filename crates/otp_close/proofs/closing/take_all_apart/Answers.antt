@@ -2,7 +2,7 @@ use Rattle.std.proofs.Common.{◌≡◌, drop, length, map, sym, ap, ◌∙◌, 
 use Rattle.otp_inbox.specs.Lists.{AsOften, EachInOrder}
 use Rattle.otp_run.specs.Lists.{AllAt}
 use Rattle.otp_run.proofs.Places.{push_at}
-use Rattle.otp_report.specs.declared.report.TableReport.{TableReport}
+use Rattle.otp_close.specs.declared.report.report.TableReport.{TableReport}
 use Rattle.otp_sup.specs.Plans.{IsBegunBy}
 use Rattle.otp_close.specs.Closes.{HasBegun, HasTold, HaveBegun}
 use Rattle.otp_bodies.specs.Messages.{items_in}

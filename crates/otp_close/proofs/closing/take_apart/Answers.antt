@@ -4,7 +4,7 @@ use Rattle.otp_inbox.specs.declared.rule.Shares.{Shares}
 use Rattle.otp_inbox.specs.Lists.{EachInOrder}
 use Rattle.otp_inbox.specs.Tokens.{all_sent, sent_lists}
 use Rattle.otp_rules.specs.declared.event.Effect.{Effect}
-use Rattle.otp_office.specs.Orders.{started_by}
+use Rattle.otp_bodies.specs.Orders.{started_by}
 use Rattle.std.specs.Prelude.{sum_by}
 use Rattle.otp_rules.specs.Needs.{numbers_of}
 use Rattle.otp_signals.specs.Lists.{AllIn, NoneInBoth}
@@ -12,9 +12,9 @@ use Rattle.otp_core.specs.View.{View, stored_of}
 use Rattle.otp_bodies.specs.Ends.{AreTold}
 use Rattle.otp_bodies.specs.Messages.{items_in}
 use Rattle.otp_sup.specs.Told.{ends_told_in}
-use Rattle.otp_office.specs.Events.{items_of}
-use Rattle.otp_office.specs.Offices.{sent_of}
-use Rattle.otp_office.specs.Orders.{starts_in}
+use Rattle.otp_bodies.specs.Events.{items_of}
+use Rattle.otp_bodies.specs.Offices.{sent_of}
+use Rattle.otp_bodies.specs.Orders.{starts_in}
 use Rattle.otp_sup.proofs.Planned.{planned}
 use Rattle.otp_close.specs.Leavings.{IsLeft}
 use Rattle.otp_close.proofs.closing.take_apart.Goals as goal

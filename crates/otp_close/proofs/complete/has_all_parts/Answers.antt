@@ -3,7 +3,7 @@ use Rattle.std.specs.Prelude.{IsTrue}
 use Rattle.otp_inbox.specs.Tokens.{all_parts}
 use Rattle.otp_close.specs.Closes.{all_senders}
 use Rattle.otp_hand.specs.Sendings.{parts_to}
-use Rattle.otp_report.proofs.Below.{below-next}
+use Rattle.otp_close.proofs.Below.{below-next}
 use Rattle.otp_close.proofs.complete.has_all_parts.Goals as goal
 
 isnt_true : IsTrue false → ⊥

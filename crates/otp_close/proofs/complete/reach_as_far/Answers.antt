@@ -2,7 +2,7 @@ use Rattle.std.proofs.Common.{◌≡◌, false, refl, ◌<◌, Some, length, ap,
 use Rattle.std.proofs.lemmas.Option.{slice_get-get_or}
 use Rattle.std.specs.Prelude.{IfSome, IsTrue}
 use Rattle.otp_hand.specs.Hands.{senders_of}
-use Rattle.otp_report.proofs.Below.{below-more, below-all}
+use Rattle.otp_close.proofs.Below.{below-more, below-all}
 use Rattle.otp_close.proofs.complete.reach_as_far.Goals as goal
 
 isnt_true : IsTrue false → ⊥

@@ -1,7 +1,7 @@
 use Rattle.std.proofs.Common.{◌≡◌, ◌∙◌, ◌++◌, ◌||◌, ℕ, List, [], ap, length, subst}
 use Rattle.std.specs.Io.KnownBytes.{Appends}
 use Rattle.otp_jobs.specs.Runs.{run_text}
-use Rattle.otp_report.specs.declared.report.TableReport.{TableReport}
+use Rattle.otp_close.specs.declared.report.report.TableReport.{TableReport}
 use Rattle.otp_command_run.specs.Running.{IsSaid}
 use Rattle.otp_command_run.proofs.Ran.{run_done, run_told}
 use Rattle.otp_command_run.proofs.running.run_file.Goals as goal

@@ -1,6 +1,6 @@
 use Rattle.std.proofs.Common.{List, rules, subst, sym}
-use Rattle.otp_lint.specs.Found.{Finds}
-use Rattle.otp_lint.specs.declared.found.LintFinding.{LintFinding}
+use Rattle.otp_commands.specs.Found.{Finds}
+use Rattle.otp_commands.specs.declared.lint.found.LintFinding.{LintFinding}
 use Rattle.otp_commands.proofs.Written.{lawful_plain, remarked_on, some_of}
 use Rattle.otp_commands.proofs.checking.check_remarks.Goals as goal
 

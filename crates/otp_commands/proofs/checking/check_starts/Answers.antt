@@ -1,6 +1,6 @@
 use Rattle.std.proofs.Common.{List, rules, subst, sym}
-use Rattle.otp_check_run.specs.Unfit.{FindsUnfit}
-use Rattle.otp_check_run.specs.declared.finding.StartFinding.{StartFinding}
+use Rattle.otp_check.specs.Unfit.{FindsUnfit}
+use Rattle.otp_check.specs.declared.starts.finding.StartFinding.{StartFinding}
 use Rattle.otp_commands.proofs.Written.{some_of, unfit_for}
 use Rattle.otp_commands.proofs.checking.check_starts.Goals as goal
 

@@ -5,4 +5,4 @@ use Rattle.otp_diff.proofs.cost.write_costs.Given as goal
 
 abbrev pub invariant-loop-a : goal.invariant-loop-a
 invariant-loop-a l =
-    l.out.items ++ flat_map (row_text l.news) (drop l.a-index l.olds) ≡ l.fn.out.items ++ flat_map (row_text l.news) l.olds
+    l.out.items ++ flat_map (row_text l.form l.news) (drop l.a-index l.olds) ≡ l.fn.out.items ++ flat_map (row_text l.form l.news) l.olds

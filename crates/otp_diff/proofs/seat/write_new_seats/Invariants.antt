@@ -5,4 +5,4 @@ use Rattle.otp_diff.proofs.seat.write_new_seats.Given as goal
 
 abbrev pub invariant-loop-seat : goal.invariant-loop-seat
 invariant-loop-seat l =
-    l.out.items ++ flat_map (new_seat_text l.olds) (drop l.seat-index l.seats) ≡ l.fn.out.items ++ flat_map (new_seat_text l.olds) l.seats
+    l.out.items ++ flat_map (new_seat_text l.form l.olds) (drop l.seat-index l.seats) ≡ l.fn.out.items ++ flat_map (new_seat_text l.form l.olds) l.seats

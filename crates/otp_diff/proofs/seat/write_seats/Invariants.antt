@@ -5,4 +5,4 @@ use Rattle.otp_diff.proofs.seat.write_seats.Given as goal
 
 abbrev pub invariant-loop-seat : goal.invariant-loop-seat
 invariant-loop-seat l =
-    l.out.items ++ flat_map (seat_text l.others) (drop l.seat-index l.seats) ≡ l.fn.out.items ++ flat_map (seat_text l.others) l.seats
+    l.out.items ++ flat_map (seat_text l.form l.others) (drop l.seat-index l.seats) ≡ l.fn.out.items ++ flat_map (seat_text l.form l.others) l.seats

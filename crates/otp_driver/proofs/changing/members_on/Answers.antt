@@ -1,6 +1,6 @@
 use Rattle.std.specs.Prelude.{◌≡◌, ◌+◌, ℕ, List, [], ◌∷◌, ◌++◌, Option, length}
 use Rattle.std.proofs.Common.{◌∙◌, ap, length-append, subst}
-use Rattle.otp_driven.specs.Members.{Member}
+use Rattle.otp_driver.specs.Members.{Member}
 use Rattle.otp_driver.specs.Changed.{MayGoOnAs, at_origin, member_on, origin_at}
 use Rattle.otp_driver.proofs.Changed.{held_more, may_more, members_more}
 use Rattle.otp_driver.proofs.changing.members_on.Goals as goal

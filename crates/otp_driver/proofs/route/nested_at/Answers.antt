@@ -1,6 +1,6 @@
 use Rattle.std.proofs.Common.{◌∙◌, sym}
-use Rattle.otp_driven.specs.Members.{row_at, state_in}
-use Rattle.otp_driven.proofs.Under.{none_nested}
+use Rattle.otp_driver.specs.Members.{row_at, state_in}
+use Rattle.otp_driver.proofs.DrivenUnder.{none_nested}
 use Rattle.otp_driver.proofs.route.nested_at.Goals as goal
 
 pub returns-else-has_nested : goal.returns-else-has_nested

@@ -1,7 +1,7 @@
 use Rattle.std.proofs.Common.{◌≡◌, ◌∷◌, ◌++◌, [], ◌∙◌, ◌<◌, ◌+◌, length, arith, ap, subst, rules, take, get_or}
 use Rattle.std.proofs.lemmas.Grind.{drop_more_same}
 use Rattle.std.proofs.lemmas.List.{drop-set-lt, take_more, take_more_set}
-use Rattle.otp_counts.specs.Counts.{IsRead, Reading}
+use Rattle.otp_signals.specs.Counts.{IsRead, Reading}
 use Rattle.otp_hand.proofs.EachRead.{read_more, same_at}
 use Rattle.otp_hand.proofs.reading.read_each.Goals as goal
 

@@ -1,6 +1,6 @@
 use Rattle.std.proofs.Common.{◌≡◌, ◌+◌, ◌≤◌, ◌++◌, drop, map, Some, None}
 use Rattle.otp_spec.specs.declared.limits.TheConstants.{MAX_TABLES}
-use Rattle.otp_roles.specs.Faults.{unknown_from}
+use Rattle.otp_file.specs.RolesFaults.{unknown_from}
 use Rattle.otp_jobs.specs.Plans.{bodies_from, total}
 use Rattle.otp_jobs.proofs.plan.bodies_of.Given as goal
 

@@ -2,7 +2,7 @@ use Rattle.std.proofs.Common.{◌≡◌, ◌+◌, ◌<◌, ◌++◌, ◌∷◌, 
 use Rattle.std.proofs.lemmas.List.{length-map, map-append}
 use Rattle.otp_file.specs.Trees.{Table}
 use Rattle.otp_spec.specs.declared.limits.TheConstants.{MAX_TABLES}
-use Rattle.otp_roles.specs.Faults.{first_unknown, table_seen}
+use Rattle.otp_file.specs.RolesFaults.{first_unknown, table_seen}
 use Rattle.otp_jobs.specs.Plans.{joined, plan_of, plans_from, seen, total, tree_sizes}
 use Rattle.otp_jobs.proofs.PlanLemmas.{all_known, counted, take_next, total-tree_sizes}
 use Rattle.otp_jobs.proofs.plan.plan_all.Goals as goal

@@ -1,6 +1,6 @@
 use Rattle.std.proofs.Common.{◌≡◌, ◌+◌, ◌++◌, List, map, length, None}
 use Rattle.otp_file.specs.Trees.{Table}
-use Rattle.otp_roles.specs.Faults.{first_unknown, table_seen}
+use Rattle.otp_file.specs.RolesFaults.{first_unknown, table_seen}
 use Rattle.otp_jobs.specs.Plans.{plans_from, seen, tree_sizes}
 use Rattle.otp_jobs.proofs.plan.plan_all.Given as goal
 

@@ -1,6 +1,6 @@
 use Rattle.std.proofs.Common.{◌≡◌, ◌++◌, ◌∙◌, List, OnOk, ap, codes, decimal, subst, ℕ}
 use Rattle.otp_costs.specs.Groups.{below}
-use Rattle.otp_html.specs.Markup.{element}
+use Rattle.otp_pages.specs.Markup.{element}
 use Rattle.otp_pages.specs.Costs.{alike_html, child_cell}
 use Rattle.otp_pages.proofs.Joined.{more, on_ok, whole}
 use Rattle.otp_pages.proofs.row.put_child.Goals as goal

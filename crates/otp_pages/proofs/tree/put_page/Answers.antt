@@ -1,5 +1,5 @@
 use Rattle.std.proofs.Common.{◌≡◌, ◌++◌, ◌∙◌, List, OnOk, ap, codes, decimal, subst, ℕ}
-use Rattle.otp_html.specs.Frame.{foot_text, head_text}
+use Rattle.otp_pages.specs.Frame.{foot_text, head_text}
 use Rattle.otp_pages.specs.Trees.{tree_legend, tree_page}
 use Rattle.otp_pages.proofs.Joined.{more, on_ok, whole}
 use Rattle.otp_pages.proofs.tree.put_page.Goals as goal

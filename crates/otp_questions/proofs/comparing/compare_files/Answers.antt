@@ -11,5 +11,5 @@ returns-in-Err-told g c =
     let old : Written = g.W.Output.seen c.args.output.now in
     let one : HasTree c.args.file.now = (c.in-Ok.tree, (c.in-Ok.ensures {u = tt}).tree) in
     let two : HasTree c.args.other_file.now = (c.in-Ok-read_tree.other_tree, (c.in-Ok-read_tree.ensures {u = tt}).tree) in
-    subst (λ (e : ProgramEnd). IsCompared c.args.name.now c.args.other.now e c.args.file.now c.args.other_file.now old old) (sym c.end_of_halt.ensures)
-    (halted c.args.name.now c.args.other.now c.args.file.now c.args.other_file.now old c.in-Err-told.halt one two)
+    subst (λ (e : ProgramEnd). IsCompared c.args.is_json c.args.name.now c.args.other.now e c.args.file.now c.args.other_file.now old old) (sym c.end_of_halt.ensures)
+    (halted c.args.is_json c.args.name.now c.args.other.now c.args.file.now c.args.other_file.now old c.in-Err-told.halt one two)

@@ -6,6 +6,6 @@ use Rattle.otp_suggest.proofs.edge.search.Goals as goal
 
 pub returns-clause-ok : goal.returns-clause-ok
 returns-clause-ok c =
-    subst (λ (v : ℕ). IsEdge c.args.dial c.args.clock c.args.supervisor.now.flags c.args.supervisor.now.specs c.args.id.now c.args.gap (At v)) (sym c.value_at.ensures)
-    (edge_at c.args.dial c.args.clock c.args.supervisor.now.flags c.args.supervisor.now.specs c.args.id.now c.args.gap c.halving.bounds.short c.halving.bounds.long
+    subst (λ (v : ℕ). IsEdge c.args.dial c.args.clock c.args.supervisor.now.flags c.args.supervisor.now.specs c.args.id.now c.args.course (At v)) (sym c.value_at.ensures)
+    (edge_at c.args.dial c.args.clock c.args.supervisor.now.flags c.args.supervisor.now.specs c.args.id.now c.args.course c.halving.bounds.short c.halving.bounds.long
     c.halving.invariant.order c.halving-test.false c.halving.invariant.falls c.halving.invariant.lasts)

@@ -3,8 +3,8 @@ use Rattle.std.specs.Prelude.{if◌then◌else◌, is_some}
 use Rattle.otp_bodies.specs.Bodies.{came_for, count_away, is_away, move_first, place_without_line, stray}
 use Rattle.otp_bodies.specs.declared.bodies.Kept.{Kept}
 use Rattle.otp_bodies.specs.declared.bodies.Origin.TheVariants as origin
-use Rattle.otp_bodies.specs.declared.bodies.Place.{Place}
-use Rattle.otp_bodies.specs.declared.bodies.Place.TheVariants as placed
+use Rattle.otp_bodies.specs.declared.bodies.BodyPlace.{BodyPlace}
+use Rattle.otp_bodies.specs.declared.bodies.BodyPlace.TheVariants as placed
 use Rattle.otp_bodies.proofs.Few.{first_of_few, put_is}
 use Rattle.otp_bodies.proofs.Keeping.{IsFirstAt, any_at, moved_at}
 use Rattle.otp_reason.specs.declared.note.Note.{Note}
@@ -27,7 +27,7 @@ returns-in-Some-home g c = λ s rows plan slot_is.
     let kept : List Kept = c.args.bodies.now.kept in
     let slot : ℕ = c.in-Some-home.slot in
     let t : Kept → Bool = is_away slot in
-    let home : Place = placed.Home slot in
+    let home : BodyPlace = placed.Home slot in
     let within : slot < length kept = c.is_away_at.ensures.within c.if-is_away_at.true in
     let here : t (get_or kept slot stray) ≡ true = c.is_away_at.ensures.away c.if-is_away_at.true stray in
     let few : count_away slot kept ≤ 1 = let one = c.requires.one_body slot in omega (arith, one) in

@@ -5,7 +5,7 @@ use Rattle.otp_table.specs.declared.row.Row.{Row}
 use Rattle.otp_table.specs.Rows.{has_process, row_has}
 use Rattle.otp_rules.specs.Slots.{AreSlotted}
 use Rattle.otp_bodies.specs.Letters.{number_of}
-use Rattle.otp_office.specs.Offices.{AreApart}
+use Rattle.otp_bodies.specs.Offices.{AreApart}
 use Rattle.otp_sup.specs.Moves.{slot_heeding}
 use Rattle.otp_sup.proofs.Found.{found_heeding, unfound_heeding}
 use Rattle.otp_sup.proofs.rows.slot_heeding.Goals as goal

@@ -2,8 +2,8 @@ use Rattle.std.proofs.Common.{ap, arith, sym, ◌∙◌}
 use Rattle.otp_inbox.specs.Tokens.{SenderState, TakerState}
 use Rattle.otp_bodies.specs.declared.letter.Message.{Message}
 use Rattle.otp_sup.proofs.Credits.{credited_again, credited_only, started_again, started_one, taken_again, taken_only}
-use Rattle.otp_office.proofs.More.{flushes_last, flushes_less, flushes_more, last_sent, more_again}
-use Rattle.otp_office.proofs.Sent.{sent_again, sent_none}
+use Rattle.otp_bodies.proofs.More.{flushes_last, flushes_less, flushes_more, last_sent, more_again}
+use Rattle.otp_bodies.proofs.Sent.{sent_again, sent_none}
 use Rattle.otp_sup.proofs.sup.flush_all.Goals as goal
 
 pub loop-table-init : goal.loop-table-init

@@ -1,9 +1,9 @@
 use Rattle.std.proofs.Common.{◌≡◌, ◌+◌, length}
-use Rattle.otp_office.specs.Flushes.{SentOrders}
+use Rattle.otp_bodies.specs.Flushes.{SentOrders}
 use Rattle.otp_bodies.specs.Bodies.{bodies_in}
 use Rattle.otp_bodies.specs.Ports.{TookMore, carried, taken_by}
 use Rattle.otp_sup.specs.Shares.{HasStarted}
-use Rattle.otp_office.proofs.More.{IsLast, left_after}
+use Rattle.otp_bodies.proofs.More.{IsLast, left_after}
 use Rattle.otp_sup.proofs.sup.flush_all.Given as goal
 
 abbrev pub invariant-loop-table : goal.invariant-loop-table

@@ -1,9 +1,9 @@
 use Rattle.std.proofs.Common.{◌≡◌, ◌++◌, ◌∷◌, [], List, Some, None, Bool, ap, sym, ◌∙◌}
 use Rattle.std.specs.Prelude.{position, if◌then◌else◌}
 use Rattle.otp_bodies.specs.declared.bodies.Kept.{Kept}
-use Rattle.otp_bodies.specs.declared.bodies.Place.TheVariants as placed
+use Rattle.otp_bodies.specs.declared.bodies.BodyPlace.TheVariants as placed
 use Rattle.otp_bodies.specs.Bodies.{BodiesView, is_away, move_first, place_without_line, stray}
-use Rattle.otp_bodies.specs.declared.bodies.Place.{Place}
+use Rattle.otp_bodies.specs.declared.bodies.BodyPlace.{BodyPlace}
 use Rattle.otp_bodies.specs.declared.bodies.Origin.TheVariants as origin
 use Rattle.otp_bodies.proofs.Keeping.{IsFirstAt, any_at, first_at, moved_at, none_passes}
 use Rattle.otp_bodies.proofs.bodies.Bodies.come_home.Goals as goal
@@ -24,5 +24,5 @@ returns-in-None g c =
     let t : Kept → Bool = is_away c.args.slot in
     let same : c.deref.result.now ≡ xs = c.deref.ensures.value ∙ ap (λ (v : BodiesView). v.kept) c.self.view_is in
     let at : position t xs ≡ None = ap (λ (l : List Kept). position t l) (sym same) ∙ sym c.find_away.ensures ∙ c.in-None.is in
-    c.put.ensures ∙ ap (λ (p : Place). xs ++ record { origin = origin.Nobody; place = p } ∷ []) c.place_without_line-place.ensures.place
+    c.put.ensures ∙ ap (λ (p : BodyPlace). xs ++ record { origin = origin.Nobody; place = p } ∷ []) c.place_without_line-place.ensures.place
     ∙ sym (ap (λ (b : Bool). if b then move_first t (placed.Home c.args.slot) xs else xs ++ record { origin = origin.Nobody; place = place_without_line c.args.slot xs } ∷ []) (none_passes t xs at))

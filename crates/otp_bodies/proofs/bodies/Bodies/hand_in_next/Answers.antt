@@ -2,7 +2,7 @@ use Rattle.std.proofs.Common.{◌≡◌, List, Bool, ap, arith, refl, sym, subst
 use Rattle.std.specs.Prelude.{is_some}
 use Rattle.otp_bodies.specs.declared.bodies.Kept.{Kept}
 use Rattle.otp_bodies.specs.declared.bodies.Origin.TheVariants as origin
-use Rattle.otp_bodies.specs.declared.bodies.Place.TheVariants as place
+use Rattle.otp_bodies.specs.declared.bodies.BodyPlace.TheVariants as place
 use Rattle.otp_bodies.specs.Bodies.{BodiesView, IsStored, count_given}
 use Rattle.otp_bodies.proofs.Handed.{none_later}
 use Rattle.otp_bodies.proofs.Stored.{stored_put}

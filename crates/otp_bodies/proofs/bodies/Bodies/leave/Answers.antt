@@ -1,6 +1,6 @@
 use Rattle.std.proofs.Common.{List, Bool, ◌∙◌, get_or}
 use Rattle.otp_bodies.specs.declared.bodies.Kept.{Kept}
-use Rattle.otp_bodies.specs.declared.bodies.Place.TheVariants as placed
+use Rattle.otp_bodies.specs.declared.bodies.BodyPlace.TheVariants as placed
 use Rattle.otp_bodies.specs.Bodies.{is_at_home, stray}
 use Rattle.otp_bodies.proofs.Keeping.{IsFirstAt, first_at, home_is_here, moved_at, put_back, within_moved}
 use Rattle.otp_bodies.proofs.bodies.Bodies.leave.Goals as goal

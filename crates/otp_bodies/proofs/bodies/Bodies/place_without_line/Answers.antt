@@ -1,7 +1,7 @@
 use Rattle.std.proofs.Common.{◌≡◌, List, Some, None, Bool, ap, sym, ◌∙◌}
 use Rattle.std.specs.Prelude.{position, if◌then◌else◌}
 use Rattle.otp_bodies.specs.declared.bodies.Kept.{Kept}
-use Rattle.otp_bodies.specs.declared.bodies.Place.TheVariants as placed
+use Rattle.otp_bodies.specs.declared.bodies.BodyPlace.TheVariants as placed
 use Rattle.otp_bodies.specs.Bodies.{BodiesView, is_at_home, stray}
 use Rattle.otp_bodies.proofs.Keeping.{any_at, first_at, none_passes}
 use Rattle.otp_bodies.proofs.bodies.Bodies.place_without_line.Goals as goal

@@ -1,6 +1,6 @@
 use Rattle.std.proofs.Common.{rules, ◌≡◌, ◌++◌, [], All, List, ℕ, ◌≤◌, ap, append-nil, arith, length, length-append, Option, ◌∙◌, sym, subst}
 use Rattle.otp_rules.specs.declared.event.Event.{Event}
-use Rattle.otp_stores.specs.Events.{Events}
+use Rattle.otp_machine.specs.Events.{Events}
 use Rattle.otp_rules.specs.State.{State}
 use Rattle.otp_rules.specs.Run.{state_after}
 use Rattle.otp_rules.specs.Cuts.{base_of, greater_of, greatest_call, older, told_before, Earlier}

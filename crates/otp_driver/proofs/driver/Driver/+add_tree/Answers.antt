@@ -5,8 +5,8 @@ use Rattle.std.specs.List.{flat_map}
 use Rattle.otp_file.specs.Trees.{Table, Tree, tables_of}
 use Rattle.otp_driver.specs.Opened.{AddsTables, links_under}
 use Rattle.otp_driver.specs.Driven.{Driven}
-use Rattle.otp_driven.specs.Links.{first_link}
-use Rattle.otp_driven.specs.declared.link.Link.{Link}
+use Rattle.otp_driver.specs.Links.{first_link}
+use Rattle.otp_driver.specs.declared.driven.link.Link.{Link}
 use Rattle.otp_driver.proofs.Linkings.{AddedUnder, added_all, added_more, none_yet, root_table}
 use Rattle.otp_spec.specs.declared.child.ChildSpec.{ChildSpec}
 use Rattle.std.proofs.lemmas.List.{length-append, take_all}

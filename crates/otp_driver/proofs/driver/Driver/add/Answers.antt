@@ -1,6 +1,6 @@
 use Rattle.std.proofs.Common.{◌≡◌, ◌≤◌, ◌++◌, List, [], ◌∷◌, length, subst, sym, rules}
-use Rattle.otp_driven.specs.Links.{HaveParents}
-use Rattle.otp_driven.specs.declared.link.Link.{Link}
+use Rattle.otp_driver.specs.Links.{HaveParents}
+use Rattle.otp_driver.specs.declared.driven.link.Link.{Link}
 use Rattle.otp_driver.proofs.Within.{parents_push}
 use Rattle.otp_driver.proofs.driver.Driver.add.Goals as goal
 

@@ -1,6 +1,6 @@
 use Rattle.std.proofs.Common.{◌≡◌, Some, position, rules}
 use Rattle.otp_driver.specs.Driven.{Step}
-use Rattle.otp_driven.specs.Members.{has_order}
+use Rattle.otp_driver.specs.Members.{has_order}
 use Rattle.otp_driver.proofs.Steps.{goes_then}
 use Rattle.otp_driver.proofs.Within.{first_has}
 use Rattle.otp_driver.proofs.driver.Driver.advance.Goals as goal

@@ -1,7 +1,7 @@
 use Rattle.std.proofs.Common.{◌≡◌, ℕ, List, ap, length, subst, sym, ◌∙◌}
-use Rattle.otp_driven.specs.Links.{HaveParents}
-use Rattle.otp_driven.specs.Members.{Member}
-use Rattle.otp_driven.specs.declared.link.Link.{Link}
+use Rattle.otp_driver.specs.Links.{HaveParents}
+use Rattle.otp_driver.specs.Members.{Member}
+use Rattle.otp_driver.specs.declared.driven.link.Link.{Link}
 use Rattle.otp_driver.specs.Changed.{links_from}
 use Rattle.otp_driver.proofs.Changed.{links_stay, members_stay, parents_stay}
 use Rattle.otp_driver.proofs.driver.Driver.changed_from.Goals as goal

@@ -1,6 +1,6 @@
 use Rattle.std.proofs.Common.{◌≡◌, ℕ, rules, subst, sym}
 use Rattle.otp_driver.specs.Driven.{Driven, IsOutside}
-use Rattle.otp_driven.specs.Members.{state_in}
+use Rattle.otp_driver.specs.Members.{state_in}
 use Rattle.otp_driver.specs.Orders.{what_of}
 use Rattle.otp_driver.specs.Sessions.{IsToldAt, KeepsOf, Readied}
 use Rattle.otp_driver.specs.declared.order.What.{What}

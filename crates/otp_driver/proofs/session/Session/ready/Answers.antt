@@ -2,8 +2,8 @@ use Rattle.std.specs.Prelude.{Result, Err, refl}
 use Rattle.std.proofs.Common.{◌≡◌, ℕ, Option, inr, rules, subst, sym}
 use Rattle.otp_driver.specs.Driven.{Driven, IsOutside, Stands}
 use Rattle.otp_driver.specs.Sessions.{IsReadied, Readied}
-use Rattle.otp_driven.specs.declared.fault.DriveFault.{DriveFault}
-use Rattle.otp_driven.specs.declared.fault.DriveFault.TheVariants.{OutOfMemory}
+use Rattle.otp_driver.specs.declared.driven.fault.DriveFault.{DriveFault}
+use Rattle.otp_driver.specs.declared.driven.fault.DriveFault.TheVariants.{OutOfMemory}
 use Rattle.otp_driver.specs.declared.session.Session.{Session}
 use Rattle.otp_driver.proofs.Tellings.{tells_next}
 use Rattle.otp_driver.proofs.session.Session.ready.Goals as goal

@@ -8,7 +8,7 @@ use Rattle.otp_rules.specs.Step.{step}
 use Rattle.otp_spec.specs.declared.limits.TheConstants.{MAX_EVENTS}
 use Rattle.otp_core.specs.Happened.{HappenedAfter, number_after}
 use Rattle.otp_core.specs.View.{View, state_of, stored_state}
-use Rattle.otp_sim.specs.declared.driven.Stop.TheVariants as stop
+use Rattle.otp_sim.specs.declared.driven.LinesEnd.TheVariants as stop
 use Rattle.otp_sim.specs.Sim.{Sim, event_of, happen, orders_text}
 use Rattle.otp_sim.specs.Runs.{with_text}
 use Rattle.otp_sim.specs.PlayerInside.{sim_of_player}

@@ -2,7 +2,7 @@ use Rattle.std.proofs.Common.{◌≡◌, ◌∙◌, refl, arith, inl, rules, sym
 use Rattle.std.proofs.lemmas.Bool.{false≢true}
 use Rattle.otp_sup.specs.Cuts.{CutWhereFull}
 use Rattle.otp_sup.proofs.Cutting.{cut_after_full, cut_takes_none, full_pends_nothing, next_goes_on, uncut}
-use Rattle.otp_office.proofs.More.{took_none}
+use Rattle.otp_bodies.proofs.More.{took_none}
 use Rattle.otp_sup.proofs.sup.Sup.turn.Goals as goal
 use Rattle.otp_sup.proofs.sup.Sup.turn.Goals.{then-was_full, else-was_full}
 

@@ -1,8 +1,8 @@
 use Rattle.std.proofs.Common.{◌≡◌, [], refl, rules, sym, subst, ◌∙◌}
 use Rattle.otp_core.specs.View.{stored_of}
-use Rattle.otp_office.specs.Cuts.{cut_office}
-use Rattle.otp_office.specs.Offices.{OfficeView}
-use Rattle.otp_office.proofs.Telling.{none_told, told_same}
+use Rattle.otp_bodies.specs.Cuts.{cut_office}
+use Rattle.otp_bodies.specs.Offices.{OfficeView}
+use Rattle.otp_bodies.proofs.Telling.{none_told, told_same}
 use Rattle.otp_sup.specs.Facts.{IsTable}
 use Rattle.otp_sup.proofs.Told.{told_cut}
 use Rattle.otp_sup.proofs.table.Table.cut.Goals as goal

@@ -3,10 +3,10 @@ use Rattle.otp_core.specs.View.{View, state_of, stored_of}
 use Rattle.otp_rules.specs.Waits.{starts_waiting}
 use Rattle.otp_bodies.specs.Bodies.{BodiesView, bodies_in, bodies_sent, calls_waiting}
 use Rattle.otp_sup.specs.Facts.{HasBodies, IsTable}
-use Rattle.otp_office.specs.Offices.{OfficeView, slot_to_start}
+use Rattle.otp_bodies.specs.Offices.{OfficeView, slot_to_start}
 use Rattle.otp_bodies.specs.Messages.{items_in}
 use Rattle.otp_bodies.specs.Ports.{carried}
-use Rattle.otp_office.specs.Events.{items_of}
+use Rattle.otp_bodies.specs.Events.{items_of}
 use Rattle.otp_sup.specs.Shares.{gave, starts_of}
 use Rattle.otp_sup.specs.declared.table.Table.TheInside.{Inside}
 use Rattle.otp_sup.proofs.Credits.{gave_none}
@@ -15,14 +15,14 @@ use Rattle.otp_sup.proofs.Told.{ends_same}
 use Rattle.otp_sup.proofs.Flushing.{bodies_flushed, start_leaves}
 use Rattle.otp_bodies.specs.declared.bodies.Kept.{Kept}
 use Rattle.otp_sup.proofs.Calls.{sent_calls}
-use Rattle.otp_office.proofs.Telling.{told_same}
+use Rattle.otp_bodies.proofs.Telling.{told_same}
 use Rattle.otp_inbox.specs.Tokens.{TakerState}
 use Rattle.otp_bodies.specs.declared.letter.Message.{Message}
-use Rattle.otp_office.specs.Flushes.{starts_flushed}
-use Rattle.otp_office.proofs.Shared.{starts_sent_on}
+use Rattle.otp_bodies.specs.Flushes.{starts_flushed}
+use Rattle.otp_bodies.proofs.Shared.{starts_sent_on}
 use Rattle.otp_sup.proofs.Leaving.{Leaves, Left, Returns, count_returned, fits, is_none, leaves_none, leaves_one, leaves_same, left_or_not, returns_back, returns_none}
 use Rattle.otp_sup.proofs.Planned.{planned}
-use Rattle.otp_office.proofs.Putting.{flushes_core, flushes_none}
+use Rattle.otp_bodies.proofs.Putting.{flushes_core, flushes_none}
 use Rattle.otp_sup.proofs.table.Table.flush_one.Given.{Over}
 use Rattle.otp_sup.proofs.table.Table.flush_one.Goals as goal
 use Rattle.otp_sup.proofs.table.Table.flush_one.Goals.{in-Some-Some, in_default, in_default-via-in-Some+in_default, in_default-via-in_default, in-Some, in_default-back, After-is_start_sent, Joined-slot}

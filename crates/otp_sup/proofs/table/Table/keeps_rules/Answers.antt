@@ -2,7 +2,7 @@ use Rattle.std.proofs.Common.{subst}
 use Rattle.otp_core.specs.View.{state_of}
 use Rattle.otp_rules.specs.Counts.{counts_of}
 use Rattle.otp_sup.specs.Facts.{KeepsRules}
-use Rattle.otp_office.specs.Orders.{starts_in}
+use Rattle.otp_bodies.specs.Orders.{starts_in}
 use Rattle.otp_sup.proofs.OneBody.{one_body_each}
 use Rattle.otp_sup.proofs.Published.{last_along, last_counted}
 use Rattle.otp_sup.specs.Published.{counts_along}

@@ -4,12 +4,12 @@ use Rattle.otp_sup.proofs.Flushing.{first_bodies}
 use Rattle.otp_bodies.specs.Bodies.{calls_waiting}
 use Rattle.otp_sup.specs.Facts.{HasBodies}
 use Rattle.otp_bodies.specs.Messages.{items_in}
-use Rattle.otp_office.specs.Events.{items_of}
+use Rattle.otp_bodies.specs.Events.{items_of}
 use Rattle.otp_sup.proofs.Published.{all_counted, counts_first}
 use Rattle.otp_sup.proofs.Told.{told_first}
 use Rattle.otp_sup.proofs.Calls.{nothing_waits, settled_calls}
-use Rattle.otp_office.proofs.Telling.{none_told, told_same}
-use Rattle.otp_office.proofs.Shared.{none_sent}
+use Rattle.otp_bodies.proofs.Telling.{none_told, told_same}
+use Rattle.otp_bodies.proofs.Shared.{none_sent}
 use Rattle.otp_inbox.specs.declared.rule.Shares.{Shares}
 use Rattle.otp_core.specs.View.{stored_of}
 use Rattle.otp_rules.specs.declared.event.Event.{Event}

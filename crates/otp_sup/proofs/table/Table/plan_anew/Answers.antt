@@ -1,7 +1,7 @@
 use Rattle.std.proofs.Common.{◌≡◌, List, None, ap, subst, sym, ◌∙◌}
 use Rattle.otp_bodies.specs.Bodies.{BodiesView}
 use Rattle.otp_bodies.specs.declared.bodies.Kept.{Kept}
-use Rattle.otp_counts.specs.Counts.{after_publish}
+use Rattle.otp_signals.specs.Counts.{after_publish}
 use Rattle.otp_rules.specs.declared.call.CountsNow.{CountsNow}
 use Rattle.otp_sup.proofs.Anew.{anew_table}
 use Rattle.otp_sup.specs.Facts.{IsTable, TableView}

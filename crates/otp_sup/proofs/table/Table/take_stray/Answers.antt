@@ -2,7 +2,7 @@ use Rattle.std.proofs.Common.{List, ap, sym, subst, ◌∙◌}
 use Rattle.otp_core.specs.View.{state_of}
 use Rattle.otp_bodies.specs.declared.bodies.Kept.{Kept}
 use Rattle.otp_sup.specs.Facts.{HasBodies}
-use Rattle.otp_office.specs.Orders.{starts_in}
+use Rattle.otp_bodies.specs.Orders.{starts_in}
 use Rattle.otp_sup.proofs.Flushing.{stray_bodies}
 use Rattle.std.proofs.lemmas.Bool.{and_parts}
 use Rattle.otp_bodies.specs.Bodies.{calls_waiting, is_stray}

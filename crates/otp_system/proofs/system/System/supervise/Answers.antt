@@ -1,6 +1,12 @@
-use Rattle.std.proofs.Common.{◌∙◌, sym}
-use Rattle.otp_system.proofs.Supervised.{kept_on, was_served}
+use Rattle.std.proofs.Common.{◌∙◌, rules, sym}
+use Rattle.otp_system.proofs.Supervised.{as_many, kept_on, reaches_on, was_served}
 use Rattle.otp_system.proofs.system.System.supervise.Goals as goal
+
+pub rest_at_once-requires : goal.rest_at_once-requires
+rest_at_once-requires g c =
+    let first = as_many c.args.hand.now c.give_to-answer.new.hand c.give_to-answer.ensures.standing in
+    let then = as_many c.give_to-answer.new.hand c.hear_posts.new.hand c.hear_posts.ensures.standing in
+    reaches_on _ _ _ _ first then (search rules)
 
 pub returns-then-rest_at_once-clause-turn : goal.returns-then-rest_at_once-clause-turn
 returns-then-rest_at_once-clause-turn g c =

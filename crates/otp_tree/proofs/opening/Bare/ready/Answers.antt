@@ -4,7 +4,7 @@ use Rattle.otp_signals.specs.declared.view.Holding.{Holding}
 use Rattle.otp_open.proofs.Fresh.{all_idle}
 use Rattle.otp_open.specs.Opens.{AreOpened, IsIdle, root_ticket}
 use Rattle.otp_run.specs.Lists.{AllAt}
-use Rattle.otp_hand.specs.Hands.{ClientView, senders_of}
+use Rattle.otp_hand.specs.Hands.{TreeClientView, senders_of}
 use Rattle.otp_hand.specs.Sendings.{parts_at, parts_to}
 use Rattle.otp_inbox.specs.Tokens.{TakerState}
 use Rattle.otp_bodies.specs.declared.letter.Message.{Message}
@@ -45,7 +45,7 @@ pub returns-clause-own : goal.returns-clause-own
 returns-clause-own g c = ap length (c.in_ok-hands.ensures {u = tt}).same ∙ (c.in_ok-places.ensures {u = tt}).passes
 
 pub returns-clause-unasked : goal.returns-clause-unasked
-returns-clause-unasked g c = ap (λ (v : ClientView). v.owner.posts) c.first-client.ensures ∙ (c.in_ok-places.ensures {u = tt}).posts
+returns-clause-unasked g c = ap (λ (v : TreeClientView). v.owner.posts) c.first-client.ensures ∙ (c.in_ok-places.ensures {u = tt}).posts
 
 pub returns-clause-hands : goal.returns-clause-hands
 returns-clause-hands g c =
@@ -74,10 +74,10 @@ returns-clause-complete g c = λ some.
     let same : c.len-tables.result ≡ tables = omega (arith, count, ok) in
     opened_complete c.in-Ok.process.ticket (length c.in_ok-schedulers.schedulers.items) tables tables hands c.first-client.result c.in_ok-senders.senders c.named-outer.result.1 (omega (arith, some, schedulers)) made.opened
     refl
-    (ap (λ (v : ClientView). v.waiter) client)
+    (ap (λ (v : TreeClientView). v.waiter) client)
     (ap (λ (w : TakerState Message). w.inbox) c.named-outer.ensures.taker ∙ same)
     (seated.many ∙ ap (λ n. n + 1) all.count)
     seated.firsts
-    (ap (λ (v : ClientView). length v.senders) client ∙ made.len)
-    (λ k. ap (λ (v : ClientView). parts_at k v.senders + parts_to k (map senders_of hands)) client ∙ made.split k)
+    (ap (λ (v : TreeClientView). length v.senders) client ∙ made.len)
+    (λ k. ap (λ (v : TreeClientView). parts_at k v.senders + parts_to k (map senders_of hands)) client ∙ made.split k)
     made.reach

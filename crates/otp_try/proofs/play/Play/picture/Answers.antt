@@ -1,5 +1,5 @@
 use Rattle.std.proofs.Common.{[], false}
-use Rattle.otp_remarks.specs.Sketched.{drawing}
+use Rattle.otp_try.specs.Sketched.{drawing}
 use Rattle.otp_try.proofs.play.Play.picture.Goals as goal
 
 pub returns-in-None : goal.returns-in-None

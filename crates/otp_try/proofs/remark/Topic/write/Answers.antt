@@ -2,7 +2,7 @@ use Rattle.std.proofs.Common.{◌∙◌, ℕ, List, ap, refl}
 use Rattle.otp_try.specs.Page.{remark_text}
 use Rattle.otp_try.specs.Page.Remark.{Farewell, Fault, Help, Legend, Prompt, Welcome}
 use Rattle.otp_trial.specs.Played.{Seated}
-use Rattle.otp_remarks.specs.Prompt.{prompt_text}
+use Rattle.otp_try.specs.Prompt.{prompt_text}
 use Rattle.otp_try.proofs.Pages.{some_remark, status_remark}
 use Rattle.otp_try.proofs.remark.Topic.write.Goals as goal
 

@@ -1,9 +1,0 @@
-use Rattle.std.proofs.Common.{ap}
-use Rattle.otp_trial.specs.declared.steps.Outcome.{Outcome}
-use Rattle.otp_account.proofs.Runs.{played}
-use Rattle.otp_account.proofs.playing.play_line.Goals as goal
-
-pub returns : goal.returns
-returns c =
-    played c.args.step.when c.args.step.times c.in_ok-outcome.outcome.taken c.args.trial.now c.begin_line.new.self c.do_times.new.trial c.in_ok-one.one c.new-told.result.items c.do_times.new.out.items c.begin_line.ensures
-    c.new-told.ensures.items c.in_ok-outcome.ensures.often c.in_ok-one.ensures.told (ap (λ (o : Outcome). o.taken) c.in_ok-one.ensures.came) c.in_ok-one.ensures.stands

@@ -1,5 +1,0 @@
-use Rattle.otp_account.proofs.Runs.{adds_none}
-use Rattle.otp_account.proofs.playing.take_line.Goals as goal
-
-pub returns-in_ok-fault-in-Err : goal.returns-in_ok-fault-in-Err
-returns-in_ok-fault-in-Err c = adds_none c.args.trial.now c.args.lines.now.items

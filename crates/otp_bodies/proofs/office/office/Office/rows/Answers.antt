@@ -1,0 +1,14 @@
+use Rattle.std.proofs.Common.{sym, subst}
+use Rattle.otp_rules.specs.State.{State}
+use Rattle.otp_rules.specs.Run.{empty_state, state_after}
+use Rattle.otp_rules.specs.Slots.{AreSlotted}
+use Rattle.otp_bodies.proofs.Slotted.{are_below, unslotted}
+use Rattle.otp_bodies.proofs.office.office.Office.rows.Goals as goal
+
+pub returns-clause-below : goal.returns-clause-below
+returns-clause-below g c =
+    let begins = c.self.invariant.begins in
+    let core = c.self.inside.core in
+    let F : State → Type 0 = λ b. AreSlotted (state_after b core.history).rows in
+    are_below c.rows.result.now
+    (subst AreSlotted (sym c.rows.ensures.value) (subst F (sym begins.is) (c.slots_are_owned.ensures.from_any (empty_state begins.flags begins.specs) core.history begins.few unslotted)))

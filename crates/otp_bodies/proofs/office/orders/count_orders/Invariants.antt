@@ -1,0 +1,11 @@
+use Rattle.std.proofs.Common.{◌≡◌, ◌+◌, ◌-◌, ◌≤◌, drop, length}
+use Rattle.otp_bodies.specs.Orders.{orders_in}
+use Rattle.otp_bodies.proofs.office.orders.count_orders.Given as goal
+
+abbrev pub invariant-loop-place : goal.invariant-loop-place
+invariant-loop-place l =
+    (l.orders ≤ l.place)
+    × (l.orders + length (orders_in (drop l.place l.effects)) ≡ length (orders_in (drop l.from l.effects)))
+
+abbrev pub decreases-loop-place : goal.decreases-loop-place
+decreases-loop-place l = length l.effects - l.place

@@ -1,4 +1,0 @@
-use Rattle.otp_check_run.proofs.search.+look_below.Given as goal
-
-abbrev pub decreases-look_below : goal.decreases-look_below
-decreases-look_below l = l.levels

@@ -1,5 +1,0 @@
-use Rattle.otp_counts.proofs.Moves.{opens}
-use Rattle.otp_counts.proofs.counts.Publisher.open.Goals as goal
-
-pub of_words-requires : goal.of_words-requires
-of_words-requires c = opens c.word_of-word.result

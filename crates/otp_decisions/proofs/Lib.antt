@@ -1,4 +1,0 @@
-pub mod Steps
-pub mod Later
-pub mod Timed
-pub mod Deadlines

@@ -1,9 +1,0 @@
-use Rattle.std.proofs.Common.{ap, subst}
-use Rattle.otp_sim.specs.Devices.{Written}
-use Rattle.otp_exit.specs.Told.{TellsFirst}
-use Rattle.otp_exit.proofs.files.read_script.Goals as goal
-
-pub returns-then-is_tree-clause-first : goal.returns-then-is_tree-clause-first
-returns-then-is_tree-clause-first g c drawn =
-    subst (λ (before : Written). TellsFirst drawn c.tell_not_read.result before (g.E.Output.seen c.tell_not_read.new.errors))
-    (ap g.E.Output.seen (c.in-Ok.ensures {u = tt}).silent) (c.tell_not_read.ensures.first drawn)

@@ -1,3 +1,0 @@
-pub mod Markup
-pub mod Style
-pub mod Frame

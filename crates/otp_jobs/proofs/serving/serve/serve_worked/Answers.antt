@@ -1,0 +1,8 @@
+use Rattle.otp_jobs.proofs.Begun.{have_begun, none_bare}
+use Rattle.otp_jobs.proofs.serving.serve.serve_worked.Goals as goal
+
+pub fault_of-requires-clause-bodies : goal.fault_of-requires-clause-bodies
+fault_of-requires-clause-bodies g c = none_bare c.in_ok-plans.plans.items c.in-Err.why (c.in_ok-plans.ensures {u = tt}).bodies (c.in-Err.ensures {u = tt}).opened
+
+pub returns-in-Ok-write_served-clause-plans : goal.returns-in-Ok-write_served-clause-plans
+returns-in-Ok-write_served-clause-plans g c = have_begun _ _ c.in-Ok.report.tables.items (c.in_ok-plans.ensures {u = tt}).supervisors (c.in-Ok.ensures {u = tt}).plans

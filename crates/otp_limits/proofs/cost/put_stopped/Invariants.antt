@@ -1,8 +1,0 @@
-use Rattle.std.proofs.Common.{◌≡◌, ◌++◌, drop}
-use Rattle.std.specs.List.{filter_map}
-use Rattle.otp_limits.specs.Costs.{stopped_by}
-use Rattle.otp_limits.proofs.cost.put_stopped.Given as goal
-
-abbrev pub invariant-loop-order : goal.invariant-loop-order
-invariant-loop-order l =
-    l.names ++ filter_map (stopped_by l.spec) (drop l.order-index l.orders) ≡ l.fn.names ++ filter_map (stopped_by l.spec) l.orders

@@ -1,5 +1,0 @@
-use Rattle.std.proofs.Common.{length}
-use Rattle.otp_limits.proofs.fall.+put_given_up.Given as goal
-
-abbrev pub decreases-put_given_up : goal.decreases-put_given_up
-decreases-put_given_up l = length l.seats.now

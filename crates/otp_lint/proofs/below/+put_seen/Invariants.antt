@@ -1,5 +1,0 @@
-use Rattle.std.proofs.Common.{length}
-use Rattle.otp_lint.proofs.below.+put_seen.Given as goal
-
-abbrev pub decreases-put_seen : goal.decreases-put_seen
-decreases-put_seen l = length l.specs.now

@@ -1,5 +1,0 @@
-use Rattle.std.proofs.Common.{length}
-use Rattle.otp_lint.proofs.below.+stop_in.Given as goal
-
-abbrev pub decreases-stop_in : goal.decreases-stop_in
-decreases-stop_in l = length l.children.now

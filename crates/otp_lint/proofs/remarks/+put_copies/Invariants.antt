@@ -1,5 +1,0 @@
-use Rattle.std.proofs.Common.{length}
-use Rattle.otp_lint.proofs.remarks.+put_copies.Given as goal
-
-abbrev pub decreases-put_copies : goal.decreases-put_copies
-decreases-put_copies l = length l.paths.now

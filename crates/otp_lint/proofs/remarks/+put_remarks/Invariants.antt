@@ -1,5 +1,0 @@
-use Rattle.std.proofs.Common.{length}
-use Rattle.otp_lint.proofs.remarks.+put_remarks.Given as goal
-
-abbrev pub decreases-put_remarks : goal.decreases-put_remarks
-decreases-put_remarks l = length l.tables.now

@@ -1,4 +1,0 @@
-pub mod Below
-pub mod Lint
-pub mod Texts
-pub mod Found

@@ -1,0 +1,10 @@
+pub mod Deadlines
+pub mod Halves
+pub mod Histories
+pub mod Later
+pub mod Lines
+pub mod Queues
+pub mod Replies
+pub mod Rising
+pub mod Steps
+pub mod Timed

@@ -1,8 +1,0 @@
-pub mod Rows
-pub mod Orders
-pub mod Posts
-pub mod Offices
-pub mod Answers
-pub mod Cuts
-pub mod Events
-pub mod Flushes

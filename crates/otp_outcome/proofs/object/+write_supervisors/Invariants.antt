@@ -1,5 +1,0 @@
-use Rattle.std.specs.Prelude.{length}
-use Rattle.otp_outcome.proofs.object.+write_supervisors.Given as goal
-
-abbrev pub decreases-write_supervisors : goal.decreases-write_supervisors
-decreases-write_supervisors l = length l.seats.now

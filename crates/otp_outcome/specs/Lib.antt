@@ -1,3 +1,0 @@
-pub mod Lives
-pub mod Awaited
-pub mod Object

@@ -1,4 +1,0 @@
-use Rattle.otp_picture.proofs.picture.+draw_below.Given as goal
-
-abbrev pub decreases-draw_below : goal.decreases-draw_below
-decreases-draw_below g l = l.levels

@@ -1,5 +1,0 @@
-use Rattle.std.proofs.Common.{length}
-use Rattle.otp_remarks.proofs.fate.+write_first.Given as goal
-
-abbrev pub decreases-write_first : goal.decreases-write_first
-decreases-write_first l = length l.rows.now

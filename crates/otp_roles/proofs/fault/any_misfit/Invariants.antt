@@ -1,8 +1,0 @@
-use Rattle.std.proofs.Common.{◌≡◌, drop, map}
-use Rattle.std.specs.List.{list_any}
-use Rattle.otp_roles.specs.Faults.{has_misfit, table_seen}
-use Rattle.otp_roles.proofs.fault.any_misfit.Given as goal
-
-abbrev pub invariant-loop-table : goal.invariant-loop-table
-invariant-loop-table l =
-    list_any has_misfit (map table_seen (drop l.table-index l.tables)) ≡ list_any has_misfit (map table_seen l.tables)

@@ -1,6 +1,0 @@
-use Rattle.std.proofs.Common.{◌≡◌, drop}
-use Rattle.otp_roles.specs.Faults.{misfit_from}
-use Rattle.otp_roles.proofs.fault.misfit_in.Given as goal
-
-abbrev pub invariant-loop-place : goal.invariant-loop-place
-invariant-loop-place l = misfit_from l.nested l.place (drop l.place l.specs) ≡ misfit_from l.nested 0 l.specs

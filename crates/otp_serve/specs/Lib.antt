@@ -1,2 +1,0 @@
-pub mod Patient
-pub mod Serves

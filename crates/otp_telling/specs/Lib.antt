@@ -1,3 +1,0 @@
-pub mod Strains
-pub mod Starts
-pub mod Story

@@ -1,6 +1,0 @@
-use Rattle.std.proofs.Common.{◌≡◌, ◌++◌, drop, map}
-use Rattle.otp_timeline.specs.Moments.{mark_of}
-use Rattle.otp_timeline.proofs.moment.marks_of.Given as goal
-
-abbrev pub invariant-loop-row : goal.invariant-loop-row
-invariant-loop-row l = l.marks.items ++ map mark_of (drop l.row-index l.rows) ≡ map mark_of l.rows

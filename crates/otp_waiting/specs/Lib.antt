@@ -1,3 +1,0 @@
-pub mod Waitings
-pub mod Arounds
-pub mod Deadlines

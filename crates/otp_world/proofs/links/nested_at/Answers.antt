@@ -1,8 +1,0 @@
-use Rattle.std.proofs.Common.{◌∙◌, sym}
-use Rattle.otp_driven.specs.Members.{row_at}
-use Rattle.otp_driven.proofs.Under.{none_nested}
-use Rattle.otp_world.proofs.links.nested_at.Goals as goal
-
-pub returns-else-has_nested : goal.returns-else-has_nested
-returns-else-has_nested c =
-    sym (none_nested c.args.place (row_at c.args.rows.now c.args.process) c.args.links.now (sym c.has_nested.ensures ∙ c.if-has_nested.false))
