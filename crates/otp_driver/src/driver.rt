@@ -28,7 +28,7 @@ use std::marker::Model;
 /// ```text
 /// let mut driver = Driver::open(alloc, &tree)?;            // the root starts
 /// loop {
-///     while let Some(place) = driver.advance()? {          // what follows by itself is done
+///     while let Some(place) = driver.go_on()? {          // what follows by itself is done
 ///         carry_out(&driver.supervisors()[place]);         // its next order: start, ask, kill, an answer, the root's end
 ///         driver.took(place);
 ///     }
@@ -38,7 +38,7 @@ use std::marker::Model;
 /// }
 /// ```
 ///
-/// An `Err` leaves the tree as it was, but that `advance` may have gone on by whole steps; so the same may be told again.
+/// An `Err` leaves the tree as it was, but that `go_on` may have gone on by whole steps; so the same may be told again.
 #[derive(Drop)]
 pub struct Driver {
     /// The root first, and each before its children.
@@ -390,7 +390,7 @@ impl Driver {
     ///
     /// [`DriveFault::OutOfMemory`], [`DriveFault::OrdersWait`], [`DriveFault::Spent`]: the supervisor at which the next step
     /// would happen takes nothing now. The steps before were whole, and the next call goes on from there.
-    pub fn advance(&mut self) -> Result<Option<usize>, DriveFault>
+    pub fn go_on(&mut self) -> Result<Option<usize>, DriveFault>
         ensures goes_on { GoesOn self.old self.new }
         ensures stands { IfOk result (λ found. Stands found self.new) }
         ensures why { IfErr result (λ why. RefusesMore why self.old self.new) }

@@ -137,11 +137,11 @@ impl Session {
     ///
     /// # Errors
     ///
-    /// As of [`Driver::advance`], and where there is no memory for a copy of an answer: its order is then the next.
+    /// As of [`Driver::go_on`], and where there is no memory for a copy of an answer: its order is then the next.
     pub fn ready(&mut self) -> Result<Option<usize>, DriveFault>
         ensures { IsReadied result self.old self.new }
     {
-        let Some(place) = self.driver.advance()? else {
+        let Some(place) = self.driver.go_on()? else {
             return Ok(None);
         };
         self.keep_next(place)?;

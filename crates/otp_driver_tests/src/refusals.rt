@@ -81,7 +81,7 @@ const GOES_ON: [Step; 2] = [(0, "", "1 start a a #2;"), (1, "up 77", "")];
 /// Whose orders aren't taken, is told so at last; it goes on once they are.
 fn untaken(rt: &impl Abort, alloc: Global, session: &mut Session) {
     // The order to start waits from the moment at which the pool is opened.
-    let place = got(rt, "no order can be had", session.driver.advance());
+    let place = got(rt, "no order can be had", session.driver.go_on());
     same(rt, "the place of an order", place, Some(1));
     let line = line_of(rt, "up 77");
     let full = Err(DriveFault::OrdersWait);

@@ -167,7 +167,7 @@ fn let_go<N: WordsNaming, B: Drop>(bodies: &mut Bodies<B>, office: &Office<N>, k
 }
 
 /// A body that left, and that the port didn't take, goes back to where it was.
-pub(crate) fn come_back<B: Drop>(
+pub(crate) fn take_back<B: Drop>(
     bodies: &mut Bodies<B>,
     slot: Option<usize>,
     at: Option<usize>,

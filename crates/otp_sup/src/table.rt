@@ -24,7 +24,7 @@ ghost use Rattle.otp_bodies.specs.Events.{IsRefusal, Readied};
 ghost use Rattle.otp_sup.specs.Turns.{IsSettled, Turned};
 
 use crate::cut::CutAnswer;
-use crate::moves::{come_back, happen};
+use crate::moves::{happen, take_back};
 use crate::naming::SupNaming;
 use otp_bodies::office::{Office, TurnAnswer, TurnFault, answer_of};
 use otp_bodies::{Bodies, Flushed, Letter, Message, Port, ToldEnd, keep_end};
@@ -311,7 +311,7 @@ impl<N: SupNaming, B: Drop> Table<N, B> {
         let (flushed, back) = self.office.flush_one(words, body, port);
         if let Some(body) = back {
             // The port didn't take it.
-            come_back(bodies, slot, at, body);
+            take_back(bodies, slot, at, body);
         }
         if is_start_sent(flushed, slot) {
             inbox.credit(&mut self.taker, sender, 1, 0);

@@ -76,7 +76,7 @@ impl<N: WordsNaming> Office<N> {
     }
 
     /// The first order was sent: it leaves the outbox. Its word, if it has one, was posted.
-    fn advance(&mut self)
+    fn drop_first(&mut self)
         requires some { has_some self.old.outbox ≡ true }
         requires posted { WerePosted (words_with_first self.old) (words_in self.old.owner.posts) }
         ensures { self.new ≡ record self.old { outbox = drop 1 self.old.outbox; sent = self.old.sent + 1 } }
@@ -129,19 +129,19 @@ impl<N: WordsNaming> Office<N> {
                 if let Err(back) = port.put(process) {
                     return (Flushed::Refused, back.body);
                 }
-                self.advance();
+                self.drop_first();
                 (Flushed::Sent, None)
             }
             Sending::Ask(number) => {
                 let slot = self.post(words, number, Signal::Shutdown);
                 port.posted(slot);
-                self.advance();
+                self.drop_first();
                 (Flushed::Sent, body)
             }
             Sending::Kill(number) => {
                 let slot = self.post(words, number, Signal::Kill);
                 port.posted(slot);
-                self.advance();
+                self.drop_first();
                 (Flushed::Sent, body)
             }
             Sending::Tell(note) => {
@@ -149,7 +149,7 @@ impl<N: WordsNaming> Office<N> {
                 if let Err(_) = port.send(note, end) {
                     return (Flushed::Refused, body);
                 }
-                self.advance();
+                self.drop_first();
                 (Flushed::Sent, body)
             }
         }

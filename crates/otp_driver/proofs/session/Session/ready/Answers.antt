@@ -10,7 +10,7 @@ use Rattle.otp_driver.proofs.session.Session.ready.Goals as goal
 
 pub returns : goal.returns
 returns c =
-    let mid : Driven = c.advance.new.self in
+    let mid : Driven = c.go_on.new.self in
     let place : ℕ = c.in-Some.place in
     let outside : IsOutside mid place = subst (λ (f : Option ℕ). Stands f mid) c.in-Some.is c.in_ok-place.ensures.stands in
     let stood : Session = record { driver = mid; answer = c.keep_next.new.self.answer } in
@@ -27,7 +27,7 @@ returns c =
 
 pub returns-in_err-keep_next : goal.returns-in_err-keep_next
 returns-in_err-keep_next c =
-    let mid : Driven = c.advance.new.self in
+    let mid : Driven = c.go_on.new.self in
     let place : ℕ = c.in-Some.place in
     let outside : IsOutside mid place = subst (λ (f : Option ℕ). Stands f mid) c.in-Some.is c.in_ok-place.ensures.stands in
     let left : Session = record { driver = mid; answer = c.args.self.now.answer } in

@@ -57,7 +57,7 @@ left_at g c leaves =
     let sent = c.flush_one-flushed.ensures in
     let kept_in : Inside g.row.N.Denot g.row.B.Denot → List Kept = λ i. i.bodies.kept in
     let returns : Returns g.row.B.Denot c.starting_slot-slot.result c.find_home-at.result c.flush_one-flushed.result.1 c.match-slot.bodies.kept c.match-back.self-inside.bodies.kept = elim c.match-back.branch [
-      | in-Some w ↦ returns_back _ _ _ w.in-Some.body _ _ w.in-Some.is (λ kept can. ap kept_in w.self-inside-is ∙ w.come_back.ensures kept can)
+      | in-Some w ↦ returns_back _ _ _ w.in-Some.body _ _ w.in-Some.is (λ kept can. ap kept_in w.self-inside-is ∙ w.take_back.ensures kept can)
       | in_default-back w ↦ returns_none _ _ _ _ _ (is_none c.flush_one-flushed.result.1 w.in_default-back.is) (ap kept_in w.self-inside-is)
     ] in
     record {
@@ -130,10 +130,10 @@ flush_one-flushed-requires g c = λ some.
     let leaves = leaves_at g (goal.at.flush_one-flushed-requires g c).Joined-slot in
     start_leaves c.self.inside.office c.self.inside.bodies.kept c.starting_slot-slot.result c.match-slot.body c.keeps_rules.ensures c.self.invariant.bodies c.starting_slot-slot.ensures leaves.found some
 
-pub come_back-requires : goal.come_back-requires
-come_back-requires g c =
+pub take_back-requires : goal.take_back-requires
+take_back-requires g c =
     fits c.starting_slot-slot.result c.find_home-at.result c.match-slot.bodies.kept c.self.inside.bodies.kept
-    ((leaves_at g (goal.at.come_back-requires g c).Joined-slot).can (c.flush_one-flushed.ensures.whose (ap (λ o. is_some o) c.in-Some.is)))
+    ((leaves_at g (goal.at.take_back-requires g c).Joined-slot).can (c.flush_one-flushed.ensures.whose (ap (λ o. is_some o) c.in-Some.is)))
 
 pub invariant_of-self : goal.invariant_of-self
 invariant_of-self g c =

@@ -17,9 +17,9 @@ use Rattle.otp_bodies.proofs.office.office.Office.flush_one.Goals as goal
 pub returns-in-Ask-clause-flushed : goal.returns-in-Ask-clause-flushed
 returns-in-Ask-clause-flushed g c =
     let old : OfficeView = c.args.self.now in
-    let new : OfficeView = c.advance-in-Ask.new.self in
+    let new : OfficeView = c.drop_first-in-Ask.new.self in
     let p = c.post-slot-in-Ask.ensures.posted in
-    let stepped = c.advance-in-Ask.ensures in
+    let stepped = c.drop_first-in-Ask.ensures in
     let taken : Taken = taken_by (g.P.Port.processes c.args.port.now) (g.P.Port.notes c.args.port.now) in
     let S : Sending → Type 0 = λ h. IsSent h old new taken taken in (
       sent_first old _ new c.in-Some.how taken taken (c.in-Some.ensures {u = tt}) (ap (λ (o : OfficeView). o.outbox) p.owner) (ap (λ (o : OfficeView). o.sent) p.owner) (ap (λ (o : OfficeView). o.core) p.owner) (ap (λ (o : OfficeView). o.first_slot) p.owner) stepped
@@ -30,9 +30,9 @@ returns-in-Ask-clause-flushed g c =
 pub returns-in-Kill-clause-flushed : goal.returns-in-Kill-clause-flushed
 returns-in-Kill-clause-flushed g c =
     let old : OfficeView = c.args.self.now in
-    let new : OfficeView = c.advance-in-Kill.new.self in
+    let new : OfficeView = c.drop_first-in-Kill.new.self in
     let p = c.post-slot-in-Kill.ensures.posted in
-    let stepped = c.advance-in-Kill.ensures in
+    let stepped = c.drop_first-in-Kill.ensures in
     let taken : Taken = taken_by (g.P.Port.processes c.args.port.now) (g.P.Port.notes c.args.port.now) in
     let S : Sending → Type 0 = λ h. IsSent h old new taken taken in (
       sent_first old _ new c.in-Some.how taken taken (c.in-Some.ensures {u = tt}) (ap (λ (o : OfficeView). o.outbox) p.owner) (ap (λ (o : OfficeView). o.sent) p.owner) (ap (λ (o : OfficeView). o.core) p.owner) (ap (λ (o : OfficeView). o.first_slot) p.owner) stepped
@@ -43,9 +43,9 @@ returns-in-Kill-clause-flushed g c =
 pub returns-in_default-put-clause-flushed : goal.returns-in_default-put-clause-flushed
 returns-in_default-put-clause-flushed g c =
     let old : OfficeView = c.args.self.now in
-    let new : OfficeView = c.advance.new.self in
+    let new : OfficeView = c.drop_first.new.self in
     let p = c.post-slot.ensures.posted in
-    let stepped = c.advance.ensures in
+    let stepped = c.drop_first.ensures in
     let h = c.in_default-put.ensures {u = tt} in
     let before : Taken = taken_by (g.P.Port.processes c.args.port.now) (g.P.Port.notes c.args.port.now) in
     let after : Taken = taken_by (g.P.Port.processes c.put.new.self) (g.P.Port.notes c.put.new.self) in
@@ -74,8 +74,8 @@ returns-in_default-put-clause-bodies g c =
 pub returns-in_default-send-clause-flushed : goal.returns-in_default-send-clause-flushed
 returns-in_default-send-clause-flushed g c =
     let old : OfficeView = c.args.self.now in
-    let new : OfficeView = c.advance-in-Tell.new.self in
-    let stepped = c.advance-in-Tell.ensures in
+    let new : OfficeView = c.drop_first-in-Tell.new.self in
+    let stepped = c.drop_first-in-Tell.ensures in
     let h = c.in_default-send.ensures {u = tt} in
     let before : Taken = taken_by (g.P.Port.processes c.args.port.now) (g.P.Port.notes c.args.port.now) in
     let after : Taken = taken_by (g.P.Port.processes c.send.new.self) (g.P.Port.notes c.send.new.self) in

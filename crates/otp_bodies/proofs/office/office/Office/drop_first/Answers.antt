@@ -4,7 +4,7 @@ use Rattle.otp_bodies.specs.Offices.{OfficeView, IsOffice, words_with_first}
 use Rattle.otp_bodies.specs.Posts.{WerePosted, words_in}
 use Rattle.otp_bodies.specs.Orders.{orders_in, has_some}
 use Rattle.otp_bodies.proofs.Sends.{advanced, behind_first}
-use Rattle.otp_bodies.proofs.office.office.Office.advance.Goals as goal
+use Rattle.otp_bodies.proofs.office.office.Office.drop_first.Goals as goal
 
 pub invariant_of-self : goal.invariant_of-self
 invariant_of-self g c =

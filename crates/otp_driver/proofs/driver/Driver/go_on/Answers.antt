@@ -3,8 +3,8 @@ use Rattle.otp_driver.specs.Driven.{Step}
 use Rattle.otp_driver.specs.Members.{has_order}
 use Rattle.otp_driver.proofs.Steps.{goes_then}
 use Rattle.otp_driver.proofs.Within.{first_has}
-use Rattle.otp_driver.proofs.driver.Driver.advance.Goals as goal
-use Rattle.otp_driver.proofs.driver.Driver.advance.Goals.{in-Some+in_ok-go_on_at-in-Some+else-not-branch, in-None+in_ok-go_on_idle-in-None+else-not-branch-2}
+use Rattle.otp_driver.proofs.driver.Driver.go_on.Goals as goal
+use Rattle.otp_driver.proofs.driver.Driver.go_on.Goals.{in-Some+in_ok-go_on_at-in-Some+else-not-branch, in-None+in_ok-go_on_idle-in-None+else-not-branch-2}
 
 pub go_on_at-requires-clause-order : goal.go_on_at-requires-clause-order
 go_on_at-requires-clause-order c =
