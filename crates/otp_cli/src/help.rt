@@ -26,7 +26,7 @@ pub(crate) const FILE_OR_INPUT: &str = "The tree file, in TOML; - is standard in
 pub(crate) const CHECK_ABOUT: &str = "Says all that is wrong in tree files, and where";
 
 pub(crate) const CHECK_EXAMPLE: &str =
-    "Example: otp check examples/storm.toml examples/shop.toml\nA line a fault: FILE:LINE: number, place, what was read, and what to write.\nStatuses: 0 each file says a tree, 1 one says none or can't be read, or with\n--lint there is a remark, 2 the words, 4 output or memory.\nKeys: otp help file. Formats: docs/FORMATS.md, under Checks and pictures.";
+    "Example: otp check examples/storm.toml examples/shop.toml\nA line a fault: FILE:LINE: number, place, what was read, and what to write.\n--lint looks for a stop that may take longer than the period, intensity 0 over\npermanent children, `infinity` of a worker, more children of one start than the\nintensity, a significant child that never ends, ids that look alike; where there\nis none of these, it adds no line.\nStatuses: 0 each file says a tree, 1 one says none or can't be read, or with\n--lint there is a remark, 2 the words, 4 output or memory.\nKeys: otp help file. Formats: docs/FORMATS.md, under Checks and pictures.";
 
 pub(crate) const TREE_ABOUT: &str = "Draws a tree as text";
 
@@ -37,7 +37,7 @@ pub(crate) const LIMITS_ABOUT: &str =
     "Says what each child's failure costs: which crashes are survived";
 
 pub(crate) const LIMITS_EXAMPLE: &str =
-    "Example: otp limits examples/storm.toml\nburst: so many crashes at once are survived; interval: crashes so far apart are\nsurvived, and with a millisecond less not; stops, starts: so many processes one\ncrash stops and starts, with all below them; root, where supervisors stand\nbelow: so many crashes the root survives.\nOTP counts restarts in whole seconds, and may need a longer interval, which\nstands below the table.\nStatuses: 0 the table was written, 1 the file says no tree (`otp check FILE`\nsays why) or can't be read, 2 the words, 3 2^62 events, 4 output or memory.\nFormats: docs/FORMATS.md, under Limits.";
+    "Example: otp limits examples/storm.toml\nburst: so many crashes at once are survived; interval: crashes so far apart are\nsurvived, and with a millisecond less not; stops, starts: so many processes one\ncrash stops and starts, with all below them; root, where supervisors stand\nbelow: so many crashes the root survives.\nOTP counts restarts in whole seconds, and may need a longer interval, which\nstands below the table. With --json each of `rows` has `children`, alike ones\ntogether, and these numbers by their names.\nStatuses: 0 the table was written, 1 the file says no tree (`otp check FILE`\nsays why) or can't be read, 2 the words, 3 2^62 events, 4 output or memory.\nFormats: docs/FORMATS.md, under Limits.";
 
 pub(crate) const CHILD_HELP: &str =
     "The child with this name alone, as pool/worker, with\nall that it stops";
@@ -51,7 +51,7 @@ pub(crate) const SHUTDOWN_ABOUT: &str =
     "How long the stop of a tree may take, and who takes how much of it";
 
 pub(crate) const SHUTDOWN_EXAMPLE: &str =
-    "Example: otp shutdown examples/nested.toml\nChildren are told to stop one after another, the last started first; each has\nuntil its deadline. A child with `infinity` may take for ever.\nStatuses: 0 the times were written, 1 the file says no tree (`otp check FILE`\nsays why) or can't be read, 2 the words, 4 output or memory, 6 it may take\nlonger than --within says.\nFormats: docs/FORMATS.md, under The longest stop.";
+    "Example: otp shutdown examples/nested.toml\nChildren are told to stop one after another, the last started first; each has\nuntil its deadline. A child with `infinity` may take for ever. A start that is\nunder way isn't counted, though the stop waits for its answer.\nStatuses: 0 the times were written, 1 the file says no tree (`otp check FILE`\nsays why) or can't be read, 2 the words, 4 output or memory, 6 it may take\nlonger than --within says.\nFormats: docs/FORMATS.md, under The longest stop.";
 
 pub(crate) const LONGEST_HELP: &str =
     "How long it may take at the most, as 500ms, 30s\nor 5m: else the status is 6";
@@ -100,7 +100,7 @@ pub(crate) const IMPORT_ABOUT: &str =
     "Makes a tree of what Erlang, Elixir, supervisord or systemd says";
 
 pub(crate) const IMPORT_EXAMPLE: &str =
-    "Example: escript examples/walk.escript kernel | otp import - > kernel.toml\nFILE is a term, as {ok, {SupFlags, ChildSpecs}}, the file of supervisord, or\nunits as systemctl cat prints them. On standard error stands what has no\ncounterpart: FILE:LINE:COLUMN: what it is.\nStatuses: 0 it was written, 1 FILE says no tree or can't be read, 2 the words, 4\noutput or memory.\nFormats: docs/FORMATS.md, under Imports; docs/FROM.md says what becomes of what.";
+    "Example: escript examples/walk.escript kernel | otp import - > kernel.toml\nFILE is a term, as {ok, {SupFlags, ChildSpecs}}, the file of supervisord, or\nunits as systemctl cat prints them. On standard error stands what has no\ncounterpart: FILE:LINE:COLUMN: what it is. Of supervisord and systemd the tree\nalone says less: what is restarted after status 0, how long that waits, exit\ncodes and the environment stand in what --commands writes, for otp-procs.\nStatuses: 0 it was written, 1 FILE says no tree or can't be read, 2 the words, 4\noutput or memory.\nFormats: docs/FORMATS.md, under Imports; docs/FROM.md says what becomes of what.";
 
 pub(crate) const IMPORTED_HELP: &str =
     "A term of Erlang or Elixir, a file of supervisord, or\nunits of systemd; - is standard input";

@@ -27,11 +27,15 @@ every TIME N times ..  as N lines +TIME ..
 
 TIME is a number with ms, s, m or h behind it, as 500ms, 1.5s or 2m. CHILD is an
 id, or a process number as #3. Below the root it has its path, as sub/x; a line
-that begins with sub/ is said to that supervisor. A REASON is normal, shutdown,
-kill, killed, noproc, shutdown:TEXT or error:TEXT.
+that begins with sub/ and a space is said to that supervisor, as sub/ expect up.
+A REASON is normal, shutdown, kill, killed, noproc, shutdown:TEXT or error:TEXT.
+
+Where a start or an end takes time, let the clock go past it, as by at 20s: then
+a line says how long each child was down.
 
 Last comes a verdict: whether the root survived, and who gave up. What is
 expected and isn't so gives status 6, so a script is a test of a restart policy.
+One that expects nothing gives 0 whatever ends.
 
 Example:
 
