@@ -26,7 +26,7 @@ pub(crate) const FILE_OR_INPUT: &str = "The tree file, in TOML; - is standard in
 pub(crate) const CHECK_ABOUT: &str = "Says all that is wrong in tree files, and where";
 
 pub(crate) const CHECK_EXAMPLE: &str =
-    "Example: otp check examples/storm.toml examples/shop.toml\nA line a fault: FILE:LINE: number, place, what was read, and what to write.\n--lint looks for a stop that may take longer than the period, intensity 0 over\npermanent children, `infinity` of a worker, more children of one start than the\nintensity, a significant child that never ends, ids that look alike; where there\nis none of these, it adds no line.\nStatuses: 0 each file says a tree, 1 one says none or can't be read, or with\n--lint there is a remark, 2 the words, 4 output or memory.\nKeys: otp help file. Formats: docs/FORMATS.md, under Checks and pictures.";
+    "Example: otp check examples/storm.toml examples/shop.toml\nA line a fault: FILE:LINE: number, place, what was read, and what to write.\n--lint looks for a stop that a restart waits for and that may take longer than\nthe period, intensity 0 over permanent children, `infinity` of a worker, under\none_for_one more children of one start than the intensity, a significant child\nwhose tree never ends, ids that look alike; else it adds no line.\nStatuses: 0 each file says a tree, 1 one says none or can't be read, or with\n--lint there is a remark, 2 the words, 4 output or memory.\nKeys: otp help file. Formats: docs/FORMATS.md, under Checks and pictures.";
 
 pub(crate) const TREE_ABOUT: &str = "Draws a tree as text";
 
@@ -100,7 +100,7 @@ pub(crate) const IMPORT_ABOUT: &str =
     "Makes a tree of what Erlang, Elixir, supervisord or systemd says";
 
 pub(crate) const IMPORT_EXAMPLE: &str =
-    "Example: escript examples/walk.escript kernel | otp import - > kernel.toml\nFILE is a term, as {ok, {SupFlags, ChildSpecs}}, the file of supervisord, or\nunits as systemctl cat prints them. On standard error stands what has no\ncounterpart: FILE:LINE:COLUMN: what it is. Of supervisord and systemd the tree\nalone says less: what is restarted after status 0, how long that waits, exit\ncodes and the environment stand in what --commands writes, for otp-procs.\nStatuses: 0 it was written, 1 FILE says no tree or can't be read, 2 the words, 4\noutput or memory.\nFormats: docs/FORMATS.md, under Imports; docs/FROM.md says what becomes of what.";
+    "Example: escript examples/walk.escript kernel | otp import - > kernel.toml\nFILE is a term, as {ok, {SupFlags, ChildSpecs}}, the file of supervisord, or\nunits as systemctl cat prints them. On standard error stands what has no\ncounterpart: FILE:LINE:COLUMN: what it is. Of supervisord and systemd the tree\nalone says less: what is restarted after status 0, how long that waits, exit\ncodes and the environment stand in what --commands writes, for otp-procs; there\nrestart_after says the first and the longest wait.\nStatuses: 0 it was written, 1 FILE says no tree or can't be read, 2 the words, 4\noutput or memory.\nFormats: docs/FORMATS.md, under Imports; docs/FROM.md says what becomes of what.";
 
 pub(crate) const IMPORTED_HELP: &str =
     "A term of Erlang or Elixir, a file of supervisord, or\nunits of systemd; - is standard input";
