@@ -1,3 +1,5 @@
+pub mod CostsKnown
+pub mod FallsKept
 pub mod Ranked
 pub mod Scenes
 pub mod Steadies

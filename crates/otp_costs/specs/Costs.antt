@@ -1,5 +1,5 @@
 -- What a child's failure costs (own).
-use Rattle.std.specs.Prelude.{◌≡◌, ℕ, ◌+◌, ◌*◌, ◌^◌, ◌<◌, ◌≤◌, Bool, ◌&&◌, ◌||◌, ◌==◌, nat_lt, min, List, [], Option, Some, None, unwrap_or, length}
+use Rattle.std.specs.Prelude.{◌≡◌, ℕ, ◌+◌, ◌*◌, ◌^◌, ◌<◌, ◌≤◌, min, List, [], ◌∷◌, Option, Some, None, unwrap_or}
 use Rattle.std.specs.List.{filter_map}
 use Rattle.otp_reason.specs.declared.name.Name.{Name}
 use Rattle.otp_rules.specs.declared.event.Effect.{Effect}
@@ -93,6 +93,11 @@ pub record IsCost (flags : SupFlags) (specs : List ChildSpec) (id : Name) (cost 
   pub steady : IsSteady clock.Milliseconds flags specs id cost.steady
   -- how far apart crashes must be by the clock of OTP, from the beginning of a second on
   pub seconds : IsSteady clock.Seconds flags specs id cost.seconds
+
+-- each of these is the cost of a child of this supervisor
+abbrev pub AreCosts : SupFlags → List ChildSpec → List Cost → Type 0
+AreCosts flags specs [] = Unit {0}
+AreCosts flags specs (cost ∷ costs) = IsCost flags specs cost.id cost × AreCosts flags specs costs
 
 -- the costs of this child can't be found: one of the runs that they are found by can't be played to its end
 pub record IsUnknown (flags : SupFlags) (specs : List ChildSpec) (id : Name) : Type 0 where

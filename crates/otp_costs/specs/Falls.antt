@@ -37,15 +37,18 @@ unfoldable pub Joins : Bool → ℕ → Stand → Stand → Type 0
 Joins false place old new = new ≡ old
 Joins true place old new = (number : ℕ) × Begins place (kind.Took (item.Call number call.StartDynamic)) old new
 
--- a tree, as its file says it or with another intensity of one supervisor, whose root was opened, with all that followed, and a
--- supervisor of it that has a child: all of it at no time
-pub record OpensTree (change : Option Change) (tree : Tree) (place : ℕ) (new : Stand) : Type 0 where
-  pub planted : List Seated
-  pub is_planted : IsPlantedAs change false tree planted
+-- supervisors of which the root was opened, with all that followed, and that at this place has a child: all of it at no time
+pub record OpensFrom (planted : List Seated) (place : ℕ) (new : Stand) : Type 0 where
   pub opened : Stand
   pub opens : Begins 0 (kind.Opened 0) (at_start Milliseconds planted) opened
   pub joins : Joins (is_joined (slice_get opened.seats place)) place opened new
   pub time : new.time ≡ 0
+
+-- a tree, as its file says it or with another intensity of one supervisor, was opened so
+pub record OpensTree (change : Option Change) (tree : Tree) (place : ℕ) (new : Stand) : Type 0 where
+  pub planted : List Seated
+  pub is_planted : IsPlantedAs change false tree planted
+  pub opens : OpensFrom planted place new
 
 -- the process of this child of the supervisor at this place is killed: that comes first, and then what follows from it, all of it at
 -- the same time
@@ -94,11 +97,11 @@ abbrev pub given_up : List Seated → List (List ℕ)
 given_up [] = []
 given_up (seat ∷ seats) = given_up seats ++ path_if (gave_up (state_in seat).phase) seat.path
 
--- this child crashed until the root had ended, or as often as is played: the root fared so, and these have given up
-pub record FallsFrom (place : ℕ) (id : Name) (opened : Stand) (root : Fate) (ends : List (List ℕ)) : Type 0 where
-  pub after : Stand
-  pub falls : FallsSo MOST_FALLS place id opened root after
-  pub ended : ends ≡ given_up after.seats
+-- these supervisors were opened, and this child crashed so often, or until the root had ended: the root fared so
+pub record BearsFrom (planted : List Seated) (place : ℕ) (id : Name) (count : ℕ) (root : Fate) (after : Stand) : Type 0 where
+  pub opened : Stand
+  pub opens : OpensFrom planted place opened
+  pub falls : FallsSo count place id opened root after
 
 -- a tree was opened, and this child of it crashed until the root had ended, or as often as is played
 pub record IsFall (tree : Tree) (place : ℕ) (id : Name) (root : Fate) (ends : List (List ℕ)) : Type 0 where

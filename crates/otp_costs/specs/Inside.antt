@@ -1,5 +1,12 @@
--- What a stage stands for, and what it keeps.
-use Rattle.std.specs.Prelude.{◌≡◌, ◌≤◌, length}
+-- What players stand for, and what they keep.
+use Rattle.std.specs.Prelude.{◌≡◌, ◌≤◌, false, length, map, true}
+use Rattle.otp_file.specs.Trees.{Tree}
+use Rattle.otp_spec.specs.Supervisor.{Supervisor}
+use Rattle.otp_trial.specs.Played.{IsPlanted, fresh}
+use Rattle.otp_trial.specs.declared.clock.Clock.TheVariants.{Milliseconds}
+use Rattle.otp_costs.specs.Costs.{AreCosts}
+use Rattle.otp_costs.specs.declared.limits.known.Known.TheInside as known
+use Rattle.otp_costs.specs.declared.limits.player.TreePlayer.TheInside as player
 use Rattle.otp_driver.specs.Members.{state_in}
 use Rattle.otp_rules.specs.Needs.{last_number}
 use Rattle.otp_costs.specs.declared.limits.stage.CrashPlayer.TheInside.{Inside}
@@ -17,3 +24,18 @@ pub record IsStage (a : Inside) : Type 0 where
   pub last : a.last ≡ last_number a.supervisor.history
   -- a number is given to an event at the most
   pub numbers : last_number a.supervisor.history ≤ length a.supervisor.history
+
+-- the supervisor of which costs are known
+abbrev pub supervisor_in : known.Inside → Supervisor
+supervisor_in a = a.supervisor
+
+abbrev pub IsKnown : known.Inside → Type 0
+IsKnown a = AreCosts a.supervisor.flags a.supervisor.specs a.costs.items
+
+abbrev pub tree_of : player.Inside → Tree
+tree_of a = a.tree.now
+
+-- its trial is one of this tree, unless memory was refused meanwhile
+pub record IsTreePlayer (a : player.Inside) : Type 0 where
+  pub clock : a.is_whole ≡ true → a.trial.clock ≡ Milliseconds
+  pub planted : a.is_whole ≡ true → IsPlanted false a.tree.now (map fresh a.trial.seats)

@@ -1,5 +1,5 @@
 -- Limits of a tree as text: a line for each row, and then what a crash of each stops, starts again and ends (own).
-use Rattle.std.specs.Prelude.{◌≡◌, ℕ, ◌+◌, ◌-◌, Bool, true, false, List, [], ◌∷◌, ◌++◌, length, codes, decimal, drop, replicate, take, nat_le, nat_lt, min, ◌==◌, ◌&&◌, if◌then◌else◌}
+use Rattle.std.specs.Prelude.{ℕ, ◌+◌, ◌-◌, Bool, true, false, List, [], ◌∷◌, ◌++◌, length, codes, decimal, drop, replicate, take, nat_le, nat_lt, min, ◌==◌, ◌&&◌, if◌then◌else◌}
 use Rattle.std.specs.List.{flat_map}
 use Rattle.otp_reason.specs.declared.name.Name.{Name}
 use Rattle.otp_costs.specs.Falls.{supervisor_path}

@@ -1,5 +1,5 @@
 -- The limits of a tree as they are told (own).
-use Rattle.std.specs.Prelude.{◌≡◌, ℕ, Bool, true, false, List, [], ◌∷◌, ◌++◌, ◌||◌, not}
+use Rattle.std.specs.Prelude.{◌≡◌, ℕ, Bool, true, false, List, [], ◌∷◌, ◌++◌}
 use Rattle.otp_file.specs.Trees.{Tree}
 use Rattle.otp_costs.specs.Rows.{AreRows}
 use Rattle.otp_costs.specs.Table.{table_text}

@@ -1,13 +1,13 @@
 //! What the failure of each child of a tree costs, the worst first.
 
-ghost use Rattle.std.specs.Prelude.{◌≡◌, ◌++◌, IfOk, OnOk};
+ghost use Rattle.std.specs.Prelude.{◌≡◌, IfOk, OnOk};
 ghost use Rattle.otp_costs.specs.Groups.{is_wanted};
 ghost use Rattle.otp_costs.specs.Rows.{AreRows, HasRow, HaveRows, IsRow, PutsRanked, groups_in};
 
 use crate::alike::Grain;
 use crate::below::{count_processes, weigh_all};
 use crate::group::{Group, find_groups};
-use crate::limits::{Cost, Fate, Listed, Path, find_cost, find_fall};
+use crate::limits::{Cost, Fate, Listed, Path, TreePlayer, copy_names};
 use crate::pick::Pick;
 use crate::progress::{Progress, Unseen, see};
 use crate::rank::put_in;
@@ -35,43 +35,25 @@ pub struct Row {
     pub ends: Listed<Path>,
 }
 
-/// A copy of names.
-fn copy_names(alloc: Global, names: &[Name]) -> Result<Listed<Name>, AllocError>
-    ensures { IfOk result (λ copy. copy ≡ names.now) }
-{
-    let mut copy = Listed::new(alloc);
-    put_names(names, &mut copy)?;
-    Ok(copy)
-}
-
-/// Puts names behind others.
-fn put_names(names: &[Name], copy: &mut Listed<Name>) -> Result<(), AllocError>
-    ensures { OnOk result (copy.new ≡ copy.old ++ names.now) }
-{
-    for name in names {
-        copy.push(*name)?;
-    }
-    Ok(())
-}
-
 /// The row of a group of the supervisor at this place among all. The word is a place for a text.
 fn find_row(
     alloc: Global,
-    tree: &TreeSpec,
+    player: &mut TreePlayer<'_>,
     seats: &[TriedSupervisor],
     place: usize,
     seat: &TriedSupervisor,
     group: &Group,
     word: &mut Vec<u8>,
 ) -> Result<Row, Halt>
-    ensures { IfOk result (λ row. IsRow tree.now seats.now place seat.now group.now row) }
+    ensures row { IfOk result (λ row. IsRow player.old seats.now place seat.now group.now row) }
+    ensures tree { player.new ≡ player.old }
 {
     let path = Path::copy_of(alloc, seat.path())?;
     let names = copy_names(alloc, group.names.as_slice())?;
-    let own = find_cost(alloc, seat.supervisor(), &group.first)?;
+    let own = player.find_cost(seat.supervisor(), &group.first)?;
     let stopped = count_processes(seat.path(), seats, own.stops.as_slice(), word)?;
     let started = count_processes(seat.path(), seats, own.starts.as_slice(), word)?;
-    let fall = find_fall(alloc, tree, place, &group.first)?;
+    let fall = player.find_fall(place, &group.first)?;
     Ok(Row {
         path,
         names,
@@ -99,7 +81,7 @@ fn is_asked_for(
 #[tactic(auto, unfolding(crate::specs::Rows::HasRow))]
 fn put_row_if(
     alloc: Global,
-    tree: &TreeSpec,
+    player: &mut TreePlayer<'_>,
     seats: &[TriedSupervisor],
     place: usize,
     seat: &TriedSupervisor,
@@ -108,10 +90,11 @@ fn put_row_if(
     word: &mut Vec<u8>,
     rows: &mut Vec<Row>,
 ) -> Result<(), Halt>
-    ensures { OnOk result (PutsRanked (HasRow is_wanted tree.now seats.now place seat.now group.now) rows.old.items rows.new.items) }
+    ensures tree { player.new ≡ player.old }
+    ensures rows { OnOk result (PutsRanked (HasRow is_wanted player.old seats.now place seat.now group.now) rows.old.items rows.new.items) }
 {
     if is_wanted {
-        let row = find_row(alloc, tree, seats, place, seat, group, word)?;
+        let row = find_row(alloc, player, seats, place, seat, group, word)?;
         put_in(row, rows)?;
     }
     Ok(())
@@ -121,7 +104,7 @@ fn put_row_if(
 fn put_row(
     alloc: Global,
     pick: &Pick<'_>,
-    tree: &TreeSpec,
+    player: &mut TreePlayer<'_>,
     seats: &[TriedSupervisor],
     place: usize,
     seat: &TriedSupervisor,
@@ -129,12 +112,13 @@ fn put_row(
     word: &mut Vec<u8>,
     rows: &mut Vec<Row>,
 ) -> Result<(), Halt>
-    ensures { OnOk result (PutsRanked (HasRow (is_wanted pick.now seat.now.path group.now.names) tree.now seats.now place seat.now group.now)
+    ensures tree { player.new ≡ player.old }
+    ensures rows { OnOk result (PutsRanked (HasRow (is_wanted pick.now seat.now.path group.now.names) player.old seats.now place seat.now group.now)
         rows.old.items rows.new.items) }
 {
     let is_wanted = is_asked_for(pick, seat, group, word)?;
     put_row_if(
-        alloc, tree, seats, place, seat, group, is_wanted, word, rows,
+        alloc, player, seats, place, seat, group, is_wanted, word, rows,
     )
 }
 
@@ -142,21 +126,22 @@ fn put_row(
 fn put_rows(
     alloc: Global,
     pick: &Pick<'_>,
-    tree: &TreeSpec,
+    player: &mut TreePlayer<'_>,
     seats: &[TriedSupervisor],
     place: usize,
     seat: &TriedSupervisor,
     groups: &[Group],
     rows: &mut Vec<Row>,
 ) -> Result<(), Halt>
-    ensures { OnOk result (PutsRanked (HaveRows pick.now tree.now seats.now place seat.now groups.now) rows.old.items rows.new.items) }
+    ensures tree { player.new ≡ player.old }
+    ensures rows { OnOk result (PutsRanked (HaveRows pick.now player.old seats.now place seat.now groups.now) rows.old.items rows.new.items) }
 {
     let mut word = Vec::new(alloc);
     for at in 0..groups.len() {
         put_row(
             alloc,
             pick,
-            tree,
+            player,
             seats,
             place,
             seat,
@@ -192,19 +177,20 @@ fn put_seat(
     alloc: Global,
     grain: Grain,
     pick: &Pick<'_>,
-    tree: &TreeSpec,
+    player: &mut TreePlayer<'_>,
     seats: &[TriedSupervisor],
     place: usize,
     seat: &TriedSupervisor,
     rows: &mut Vec<Row>,
 ) -> Result<(), Halt>
-    ensures { OnOk result (PutsRanked (HaveRows pick.now tree.now seats.now place seat.now (groups_in grain seats.now seat.now)) rows.old.items rows.new.items) }
+    ensures tree { player.new ≡ player.old }
+    ensures rows { OnOk result (PutsRanked (HaveRows pick.now player.old seats.now place seat.now (groups_in grain seats.now seat.now)) rows.old.items rows.new.items) }
 {
     let groups = groups_in(alloc, grain, seats, seat)?;
     let put = put_rows(
         alloc,
         pick,
-        tree,
+        player,
         seats,
         place,
         seat,
@@ -246,6 +232,7 @@ pub fn find_rows_seen<P: Progress>(
     ensures { IfOk result (λ rows. AreRows grain pick.now tree.now rows.items) }
 {
     let seats = plant_seats(alloc, tree)?;
+    let mut player = TreePlayer::of(alloc, tree)?;
     let mut rows = Vec::new(alloc);
     for place in 0..seats.len() {
         see(progress, place, seats.as_slice());
@@ -253,7 +240,7 @@ pub fn find_rows_seen<P: Progress>(
             alloc,
             grain,
             pick,
-            tree,
+            &mut player,
             seats.as_slice(),
             place,
             &seats[place],

@@ -1,10 +1,10 @@
 -- What is told of a line that is done so often.
-use Rattle.std.proofs.Common.{◌≡◌, ◌≤◌, ◌+◌, ◌∙◌, ℕ, Bool, true, false, List, [], ◌++◌, Option, None, Some, Result, Ok, Err, OnOk, IfOk, ap, append_assoc, append-nil, arith, max, refl, subst, sym}
+use Rattle.std.proofs.Common.{◌≡◌, ◌≤◌, ◌+◌, ◌∙◌, ℕ, Bool, false, List, [], ◌++◌, Option, None, Some, Result, Ok, Err, OnOk, IfOk, ap, append_assoc, append-nil, arith, max, refl, subst, sym}
 use Rattle.std.proofs.lemmas.Bool.{false≢true}
 use Prim.Native.Nat.{zero, suc}
 use Rattle.otp_script.specs.Lines.{Saying}
 use Rattle.otp_trial.specs.Played.{Makes, Move, Stand, Tells, is_root_over, story}
-use Rattle.otp_trial.specs.Steps.{DoesAt, DoesDeed, DoesOften, DoesTimes, DoesWhen, TellsAt, TellsOften, TellsTimes, TellsWhen, goes_on, time_at}
+use Rattle.otp_trial.specs.Steps.{DoesAt, DoesDeed, DoesOften, DoesWhen, TellsAt, TellsOften, TellsTimes, TellsWhen, goes_on, time_at}
 use Rattle.otp_trial.specs.declared.steps.Outcome.{Outcome}
 use Rattle.otp_trial.specs.declared.trial.ActionEnd.{ActionEnd}
 use Rattle.otp_trial.specs.declared.trial.ActionEnd.TheVariants.{TooLate}

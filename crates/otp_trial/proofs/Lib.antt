@@ -1,5 +1,6 @@
 mod Doings
 mod Phases
+pub mod Again
 pub mod Kept
 pub mod Pathings
 pub mod Plantings

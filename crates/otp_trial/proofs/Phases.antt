@@ -1,5 +1,5 @@
 -- At which phase of the second most restarts lie in the period by whole seconds: where the second ends as it is now.
-use Rattle.std.proofs.Common.{◌≡◌, ℕ, zero, suc, ◌+◌, ◌-◌, ◌*◌, ◌/◌, ◌%◌, ◌<◌, ◌≤◌, Bool, true, false, ◌&&◌, cond, List, nat_le, nat_lt, count_by, refl, arith, sym, subst, le-leb, leb-true, lt-ltb, ltb-true, le-ltb, ltb-false, eq-or-lt_of_le, ⊎_elim, le_of_suc-le-suc}
+use Rattle.std.proofs.Common.{◌≡◌, ℕ, zero, suc, ◌+◌, ◌-◌, ◌*◌, ◌%◌, ◌<◌, ◌≤◌, Bool, true, false, ◌&&◌, cond, List, nat_le, nat_lt, count_by, refl, arith, sym, subst, le-leb, leb-true, lt-ltb, ltb-true, le-ltb, ltb-false, eq-or-lt_of_le, ⊎_elim, le_of_suc-le-suc}
 use Rattle.std.proofs.lemmas.Bool.{and_from, and_parts, or_from, or_left, or_right}
 use Rattle.std.proofs.lemmas.List.Sums.{sum_by-le-sum_by}
 use Rattle.otp_spec.specs.declared.flags.SupFlags.{SupFlags}

@@ -1,3 +1,4 @@
+pub mod Again
 pub mod Aways
 pub mod Clocks
 pub mod Deeds

@@ -5,6 +5,7 @@
 #![tactic(auto)]
 
 pub mod clock;
+pub mod laws;
 mod next;
 mod planting;
 pub mod processes;

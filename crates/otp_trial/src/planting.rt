@@ -1,6 +1,6 @@
 //! The supervisors of a tree, each with its path.
 
-ghost use Rattle.std.specs.Prelude.{◌≡◌, ◌++◌, [], ◌∷◌, true, ℕ, IfOk, IfSome, OnOk, Some, codes, map, slice_get};
+ghost use Rattle.std.specs.Prelude.{◌≡◌, ◌++◌, [], ◌∷◌, true, ℕ, IfOk, IfSome, OnOk, Some, codes, length, map, slice_get};
 ghost use Rattle.otp_reason.specs.Names.{name_bytes};
 ghost use Rattle.otp_trial.specs.Paths.{AddsPaths};
 ghost use Rattle.otp_trial.specs.Played.{AddsTree, IsChanged, IsPlanted, IsPlantedAs, fresh, paths_in, unplayed};
@@ -191,4 +191,23 @@ pub(crate) fn fresh_seats(
         anew.push(seat.fresh(alloc)?).map_err(|_| AllocError)?;
     }
     Ok(anew)
+}
+
+/// Each of these supervisors is as at the beginning of a run.
+fn freshen_each(alloc: Global, seats: &mut [TriedSupervisor]) -> Result<(), Halt>
+    ensures many { length seats.new ≡ length seats.old }
+    ensures fresh { OnOk result (seats.new ≡ map fresh seats.old) }
+{
+    for seat in seats.iter_mut() {
+        seat.freshen(alloc)?;
+    }
+    Ok(())
+}
+
+/// Each supervisor of this list is as at the beginning of a run.
+pub(crate) fn freshen(alloc: Global, seats: &mut Vec<TriedSupervisor>) -> Result<(), Halt>
+    ensures many { length seats.new.items ≡ length seats.old.items }
+    ensures fresh { OnOk result (seats.new.items ≡ map fresh seats.old.items) }
+{
+    freshen_each(alloc, seats)
 }

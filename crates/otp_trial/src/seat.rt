@@ -1,6 +1,6 @@
 //! A supervisor of a tree that is tried.
 
-ghost use Rattle.std.specs.Prelude.{◌≡◌, ◌≤◌, [], false, is_some, length, nat_lt, IfOk, OnOk};
+ghost use Rattle.std.specs.Prelude.{IsTrue, ◌≡◌, ◌≤◌, [], false, is_some, length, nat_lt, IfOk, OnOk};
 ghost use Rattle.std.specs.List.{list_any};
 ghost use Rattle.otp_core.specs.View.{new_core, state_of};
 ghost use Rattle.otp_rules.specs.Ends.{last_stamps};
@@ -90,6 +90,13 @@ fn strain_after(strain: Strain, time: u64, kind: &Kind, flags: SupFlags, core: &
     strain.strained(time, kind, &flags, core.kept_restarts(), core.effects())
 }
 
+/// Whether nothing has happened to a core.
+fn has_no_events(core: &Core) -> bool
+    ensures { IsTrue result → core.now.history ≡ [] }
+{
+    core.events_cut() == 0 && core.history().len() == 0
+}
+
 impl TriedSupervisor {
     /// A supervisor that was never opened.
     pub(crate) fn new(
@@ -124,6 +131,25 @@ impl TriedSupervisor {
         ensures { IfOk result (λ seat. seat ≡ fresh self.now) }
     {
         seat_of(alloc, self.path(), self.tells, &self.supervisor)
+    }
+
+    /// Whether nothing has happened to it since the beginning of the run.
+    fn is_fresh(&self) -> bool
+        ensures { IsTrue result → fresh self.now ≡ self.now }
+    {
+        has_no_events(&self.core) && self.aways.is_empty() && self.strain == Strain::new()
+    }
+
+    /// It is as at the beginning of a run.
+    pub(crate) fn freshen(&mut self, alloc: Global) -> Result<(), Halt>
+        ensures { OnOk result (self.new ≡ fresh self.old) }
+    {
+        if self.is_fresh() {
+            return Ok(());
+        }
+        let anew = self.fresh(alloc)?;
+        *self = anew;
+        Ok(())
     }
 
     /// This supervisor with another intensity, as at the beginning of a run.

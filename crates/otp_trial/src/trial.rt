@@ -12,11 +12,13 @@ ghost use Rattle.otp_trial.specs.declared.trial.ActionEnd.TheVariants.{Done};
 
 use crate::clock::Clock;
 use crate::next::{next_of_seats, place_of_process};
-use crate::planting::{Change, fresh_seats, plant_as};
+use crate::planting::{Change, fresh_seats, freshen, plant_as};
 use crate::processes::finding::{Found, found_for, is_known};
+use crate::processes::links::{links_again, links_to};
 use crate::processes::{Deed, Hang, Init, PlannedStart, What, World};
 use crate::seat::TriedSupervisor;
 use otp_core::EventFault;
+use otp_driver::driven::Link;
 use otp_file::TreeSpec;
 use otp_reason::{Name, Note, Reason};
 use otp_rules::{Call, Item, Kind};
@@ -120,6 +122,8 @@ pub struct Trial {
     alloc: Global,
     /// The root first, and each before its children.
     seats: Vec<TriedSupervisor>,
+    /// Whose child each of them is, as at the beginning.
+    links: Vec<Link>,
     printer: Printer,
     world: World,
     clock: Clock,
@@ -161,41 +165,7 @@ impl Trial {
         ensures told { IfOk result (λ trial. (before : List Seated) × IsPlanted tells tree.now before × TellsFirst 0 (kind.Opened 0) (at_start clock before) trial out.old.items out.new.items) }
         ensures time { IfOk result (λ trial. trial.time ≡ 0) }
     {
-        Self::open_as(alloc, tree, tells, clock, None, out)
-    }
-
-    /// Does as [`Self::open`], where the tree is as its file says it, or one of its supervisors has another intensity.
-    ///
-    /// # Errors
-    ///
-    /// Where memory is refused; so too where there is no such supervisor, or none may have that intensity.
-    pub fn open_as(
-        alloc: Global,
-        tree: &TreeSpec,
-        tells: bool,
-        clock: Clock,
-        change: Option<Change>,
-        out: &mut Vec<u8>,
-    ) -> Result<Self, Halt>
-        ensures opened { IfOk result (λ trial. (before : List Seated) × IsPlantedAs change tells tree.now before × Tells (at_start clock before) trial out.old.items out.new.items × Begins 0 (kind.Opened 0) (at_start clock before) trial) }
-        ensures told { IfOk result (λ trial. (before : List Seated) × IsPlantedAs change tells tree.now before × TellsFirst 0 (kind.Opened 0) (at_start clock before) trial out.old.items out.new.items) }
-        ensures time { IfOk result (λ trial. trial.time ≡ 0) }
-    {
-        let plants = plant_as(alloc, tree, tells, change)?;
-        if plants.seats.is_empty() {
-            drop(plants);
-            return Err(Halt::OutOfMemory);
-        }
-        let mut trial = Trial {
-            alloc,
-            seats: plants.seats,
-            printer: Printer::new(alloc),
-            world: World::new(alloc, plants.links),
-            clock,
-            time: 0,
-            calls: 0,
-            last: 0,
-        };
+        let mut trial = Self::plant(alloc, tree, tells, clock, None)?;
         match trial.play(0, Kind::Opened(0), out) {
             Ok(()) => Ok(trial),
             Err(halt) => {
@@ -203,6 +173,63 @@ impl Trial {
                 Err(halt)
             }
         }
+    }
+
+    /// A tree of which nothing was opened yet, as its file says it, or one of its supervisors has another intensity.
+    ///
+    /// # Errors
+    ///
+    /// Where memory is refused; so too where there is no such supervisor, or none may have that intensity.
+    pub fn plant(
+        alloc: Global,
+        tree: &TreeSpec,
+        tells: bool,
+        clock: Clock,
+        change: Option<Change>,
+    ) -> Result<Self, Halt>
+        ensures planted { IfOk result (λ trial. IsPlantedAs change tells tree.now trial.seats) }
+        ensures stands { IfOk result (λ trial. trial ≡ at_start clock trial.seats) }
+    {
+        let plants = plant_as(alloc, tree, tells, change)?;
+        if plants.seats.is_empty() {
+            drop(plants);
+            return Err(Halt::OutOfMemory);
+        }
+        let Ok(links) = links_again(alloc, plants.links.as_slice()) else {
+            drop(plants);
+            return Err(Halt::OutOfMemory);
+        };
+        Ok(Trial {
+            alloc,
+            seats: plants.seats,
+            links: plants.links,
+            printer: Printer::new(alloc),
+            world: World::new(alloc, links),
+            clock,
+            time: 0,
+            calls: 0,
+            last: 0,
+        })
+    }
+
+    /// This tree is opened from its beginning on. Of its supervisors that at this place is played, and those above it. Each other one is
+    /// a process of its parent as any worker: it starts, and ends where it is asked to.
+    ///
+    /// # Errors
+    ///
+    /// Where memory is refused.
+    pub fn open_to(&mut self, place: usize, out: &mut Vec<u8>) -> Result<(), Halt>
+        ensures opened { OnOk result (Begins 0 (kind.Opened 0) (at_start self.old.clock (map fresh self.old.seats)) self.new) }
+        ensures time { OnOk result (self.new.time ≡ 0) }
+    {
+        let links = links_to(self.alloc, self.links.as_slice(), place)?;
+        self.world = World::new(self.alloc, links);
+        freshen(self.alloc, &mut self.seats)?;
+        self.printer = Printer::new(self.alloc);
+        self.time = 0;
+        self.calls = 0;
+        self.last = 0;
+        self.play(0, Kind::Opened(0), out)
     }
 
     /// This tree from the beginning on: its root is opened, and its children have started as far as they do.
@@ -213,21 +240,19 @@ impl Trial {
     pub fn again(&self, out: &mut Vec<u8>) -> Result<Self, Halt>
         ensures { IfOk result (λ trial. Tells (at_start self.now.clock (map fresh self.now.seats)) trial out.old.items out.new.items) }
     {
+        let links = links_again(self.alloc, self.links.as_slice())?;
+        let planted = links_again(self.alloc, self.links.as_slice())?;
         let seats = fresh_seats(self.alloc, self.seats.as_slice())?;
-        let Ok(world) = self.world.again(self.alloc) else {
-            drop(seats);
-            return Err(Halt::OutOfMemory);
-        };
         if seats.is_empty() {
             drop(seats);
-            drop(world);
             return Err(Halt::OutOfMemory);
         }
         let mut trial = Trial {
             alloc: self.alloc,
             seats,
+            links: planted,
             printer: Printer::new(self.alloc),
-            world,
+            world: World::new(self.alloc, links),
             clock: self.clock,
             time: 0,
             calls: 0,

@@ -8,7 +8,7 @@ ghost use Rattle.otp_trial.specs.declared.clock.Clock.TheVariants.{Milliseconds}
 ghost use Rattle.otp_trial.specs.declared.trial.Halt.TheVariants.{HistoryFull};
 
 use crate::limits::fate::{Fate, play};
-use crate::limits::list::Listed;
+use crate::limits::list::{Listed, copy_names};
 use crate::limits::stage::CrashPlayer;
 use crate::limits::steady::{Steady, find_steady};
 use otp_reason::Name;
@@ -35,6 +35,28 @@ pub struct Cost {
     pub steady: Steady,
     /// How far apart they must be by the clock of OTP, which shows whole seconds.
     pub seconds: Steady,
+}
+
+impl Cost {
+    /// A copy.
+    ///
+    /// # Errors
+    ///
+    /// Where memory is refused.
+    pub fn try_clone(&self, alloc: Global) -> Result<Self, AllocError>
+        ensures { IfOk result (λ copy. copy ≡ self.now) }
+    {
+        let stops = copy_names(alloc, self.stops.as_slice())?;
+        let starts = copy_names(alloc, self.starts.as_slice())?;
+        Ok(Cost {
+            id: self.id,
+            stops,
+            starts,
+            burst: self.burst,
+            steady: self.steady,
+            seconds: self.seconds,
+        })
+    }
 }
 
 /// The child that an order stops: one without an id is called by that of its specification.

@@ -1,9 +1,9 @@
 //! How the root of a tree fares where a child crashes again and again.
 
-ghost use Rattle.std.specs.Prelude.{◌≡◌, ◌<◌, ◌++◌, false, IfOk, IfSome, OnOk, length, slice_get};
-ghost use Rattle.otp_costs.specs.Falls.{Bears, FallsFrom, FallsSo, IsFall, Joins, OpensTree, gave_up, gave_up_by, given_up, is_joined, path_if, process_at, supervisor_path};
-ghost use Rattle.otp_costs.specs.declared.limits.fall.TheConstants.{MOST_FALLS};
-ghost use Rattle.otp_trial.specs.Played.{is_root_over};
+ghost use Rattle.std.specs.Prelude.{◌≡◌, ◌<◌, ◌++◌, false, IfOk, IfSome, OnOk, length, map, slice_get};
+ghost use Rattle.otp_costs.specs.Falls.{Bears, BearsFrom, FallsSo, Joins, OpensFrom, gave_up, gave_up_by, given_up, is_joined, path_if, process_at, supervisor_path};
+ghost use Rattle.otp_trial.specs.Played.{fresh, is_root_over};
+ghost use Rattle.otp_trial.specs.declared.clock.Clock.TheVariants.{Milliseconds};
 
 use crate::limits::fate::Fate;
 use crate::limits::list::Listed;
@@ -13,7 +13,7 @@ use otp_file::TreeSpec;
 use otp_reason::{Name, Reason};
 use otp_rules::{Call, Ending, Phase};
 use otp_script::Action;
-use otp_trial::{Change, Clock, Halt, Trial, TriedSupervisor};
+use otp_trial::{Change, Clock, Halt, Trial, TriedSupervisor, laws};
 use std::alloc::Global;
 
 /// The most crashes of a child that are played in a whole tree. Each level of supervisors multiplies those that the root
@@ -76,25 +76,15 @@ fn join_at(trial: &mut Trial, place: usize, page: &mut Vec<u8>) -> Result<(), Ha
     join(trial, place, page)
 }
 
-/// A tree that is opened, as its file says it or with another intensity of one supervisor, and the supervisor at this place has a
-/// child.
-fn open(
-    alloc: Global,
-    change: Option<Change>,
-    tree: &TreeSpec,
-    place: usize,
-    page: &mut Vec<u8>,
-) -> Result<Trial, Halt>
-    ensures { IfOk result (λ trial. OpensTree change tree.now place trial) }
+/// The tree of a trial is opened from its beginning on, and the supervisor at this place has a child. It and those above it are played:
+/// no other supervisor has a child that ends by itself.
+fn open(trial: &mut Trial, place: usize, page: &mut Vec<u8>) -> Result<(), Halt>
+    requires clock { trial.old.clock ≡ Milliseconds }
+    ensures { OnOk result (OpensFrom (map fresh trial.old.seats) place trial.new) }
 {
-    let mut trial = Trial::open_as(alloc, tree, false, Clock::Milliseconds, change, page)?;
-    match join_at(&mut trial, place, page) {
-        Ok(()) => Ok(trial),
-        Err(halt) => {
-            drop(trial);
-            Err(halt)
-        }
-    }
+    page.clear();
+    trial.open_to(place, page)?;
+    join_at(trial, place, page)
 }
 
 /// A child of the supervisor at this place crashes until the root has ended, or so often.
@@ -189,42 +179,12 @@ fn put_given_up(
 }
 
 /// The supervisors that gave up, those below before those above them.
-fn find_given_up(alloc: Global, seats: &[TriedSupervisor]) -> Result<Listed<Path>, Halt>
+pub(crate) fn find_given_up(alloc: Global, seats: &[TriedSupervisor]) -> Result<Listed<Path>, Halt>
     ensures { IfOk result (λ ends. ends ≡ given_up seats.now) }
 {
     let mut ends = Listed::new(alloc);
     put_given_up(alloc, seats, &mut ends)?;
     Ok(ends)
-}
-
-/// Opens a tree, and lets a child of the supervisor at this place crash until the root has ended.
-///
-/// # Errors
-///
-/// Where memory is refused, or the opening itself doesn't come to its end.
-pub fn find_fall(alloc: Global, tree: &TreeSpec, place: usize, id: &Name) -> Result<Fall, Halt>
-    ensures { IfOk result (λ fall. IsFall tree.now place id.now fall.root fall.ends) }
-{
-    let mut page = Vec::new(alloc);
-    let mut trial = open(alloc, None, tree, place, &mut page)?;
-    let fall = fall_in(alloc, &mut trial, place, id, &mut page);
-    drop(trial);
-    fall
-}
-
-/// Lets a child of the supervisor at this place of an opened tree crash until the root has ended.
-fn fall_in(
-    alloc: Global,
-    trial: &mut Trial,
-    place: usize,
-    id: &Name,
-    page: &mut Vec<u8>,
-) -> Result<Fall, Halt>
-    ensures { IfOk result (λ fall. FallsFrom place id.now trial.old fall.root fall.ends) }
-{
-    let root = bear_in(trial, place, id, MOST_FALLS, page)?;
-    let ends = find_given_up(alloc, trial.seats())?;
-    Ok(Fall { root, ends })
 }
 
 /// Lets a child of the supervisor at this place of an opened tree crash so often, or until the root has ended.
@@ -243,6 +203,21 @@ fn bear_in(
     crash_often(trial, place, id, most, page)
 }
 
+/// Opens the tree of a trial, and lets a child of the supervisor at this place crash so often, or until the root has ended.
+pub(crate) fn bear_from(
+    trial: &mut Trial,
+    place: usize,
+    id: &Name,
+    count: u64,
+    page: &mut Vec<u8>,
+) -> Result<Fate, Halt>
+    requires clock { trial.old.clock ≡ Milliseconds }
+    ensures { IfOk result (λ root. BearsFrom (map fresh trial.old.seats) place id.now count root trial.new) }
+{
+    open(trial, place, page)?;
+    bear_in(trial, place, id, count, page)
+}
+
 /// Opens a tree, as its file says it or with another intensity of one supervisor, and lets a child of the supervisor at this place
 /// crash so often, with no time between: how the root fares.
 ///
@@ -259,9 +234,10 @@ pub fn bear(
 ) -> Result<Fate, Halt>
     ensures { IfOk result (λ root. Bears change tree.now place id.now count root) }
 {
+    laws::trees_are_kept();
     let mut page = Vec::new(alloc);
-    let mut trial = open(alloc, change, tree, place, &mut page)?;
-    let root = bear_in(&mut trial, place, id, count, &mut page);
+    let mut trial = Trial::plant(alloc, tree, false, Clock::Milliseconds, change)?;
+    let root = bear_from(&mut trial, place, id, count, &mut page);
     drop(trial);
     root
 }

@@ -1,5 +1,8 @@
 //! Lists that contracts see as lists.
 
+ghost use Rattle.std.specs.Prelude.{◌≡◌, ◌++◌, IfOk, OnOk};
+
+use otp_reason::Name;
 use std::alloc::{AllocError, Global};
 use std::marker::Model;
 
@@ -42,4 +45,23 @@ impl<T: Drop> Listed<T> {
     {
         self.items.push(item).map_err(|_| AllocError)
     }
+}
+
+/// A copy of names.
+pub(crate) fn copy_names(alloc: Global, names: &[Name]) -> Result<Listed<Name>, AllocError>
+    ensures { IfOk result (λ copy. copy ≡ names.now) }
+{
+    let mut copy = Listed::new(alloc);
+    put_names(names, &mut copy)?;
+    Ok(copy)
+}
+
+/// Puts names behind others.
+fn put_names(names: &[Name], copy: &mut Listed<Name>) -> Result<(), AllocError>
+    ensures { OnOk result (copy.new ≡ copy.old ++ names.now) }
+{
+    for name in names {
+        copy.push(*name)?;
+    }
+    Ok(())
 }

@@ -8,7 +8,9 @@ ghost use Rattle.otp_trial.specs.Links.{changed_at, has_process_at, is_stopping_
 use crate::processes::finding::place_of_process;
 use otp_driver::driven::Link;
 use otp_driver::driven::link::{has_nested, nested_of};
+use otp_file::MAX_DEPTH;
 use otp_table::Row;
+use std::alloc::{AllocError, Global};
 
 /// The child that has this process.
 #[tactic(auto, unfolding(otp_driver::specs::Members::row_at))]
@@ -127,4 +129,56 @@ pub(crate) fn end_orphans(links: &mut Vec<Link>) {
             }
         }
     }
+}
+
+/// These supervisors, none of which has a process.
+pub(crate) fn links_again(alloc: Global, links: &[Link]) -> Result<Vec<Link>, AllocError> {
+    let mut again = Vec::new(alloc);
+    for link in links {
+        again
+            .push(Link::new(link.parent, link.child))
+            .map_err(|_| AllocError)?;
+    }
+    Ok(again)
+}
+
+/// Whether the supervisor at `above` is that at `place`, or one above it. A parent stands before its children.
+fn is_above(links: &[Link], above: usize, place: usize) -> bool {
+    let mut at = place;
+    for _ in 0..MAX_DEPTH {
+        if at <= above || at >= links.len() {
+            return at == above;
+        }
+        at = links[at].parent;
+    }
+    false
+}
+
+/// Whose child the supervisor at this place of these is, where those of the way from the root to `place` are played; each other one is
+/// no supervisor to its parent.
+fn link_to(links: &[Link], at: usize, place: usize) -> Link
+    requires { at < length links.now }
+{
+    let link = links[at];
+    let child = if is_above(links, at, place) {
+        link.child
+    } else {
+        None
+    };
+    Link::new(link.parent, child)
+}
+
+/// These supervisors, none of which has a process, where those of the way from the root to this place are played.
+pub(crate) fn links_to(
+    alloc: Global,
+    links: &[Link],
+    place: usize,
+) -> Result<Vec<Link>, AllocError> {
+    let mut again = Vec::new(alloc);
+    for at in 0..links.len() {
+        again
+            .push(link_to(links, at, place))
+            .map_err(|_| AllocError)?;
+    }
+    Ok(again)
 }

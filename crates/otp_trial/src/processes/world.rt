@@ -175,17 +175,6 @@ fn stop_below(links: &mut Vec<Link>, below: Option<usize>)
     }
 }
 
-/// These supervisors, none of which has a process.
-fn links_again(alloc: Global, links: &[Link]) -> Result<Vec<Link>, AllocError> {
-    let mut again = Vec::new(alloc);
-    for link in links {
-        again
-            .push(Link::new(link.parent, link.child))
-            .map_err(|_| AllocError)?;
-    }
-    Ok(again)
-}
-
 impl World {
     /// A world in which all goes well, with these supervisors; that at place 0 is the root.
     pub fn new(alloc: Global, links: Vec<Link>) -> Self
@@ -200,12 +189,6 @@ impl World {
             deeds: VecDeque::new(alloc),
             line: 0,
         }
-    }
-
-    /// A world with these supervisors, in which nothing has happened.
-    pub fn again(&self, alloc: Global) -> Result<Self, AllocError> {
-        let links = links_again(alloc, self.links.as_slice())?;
-        Ok(World::new(alloc, links))
     }
 
     /// What is planned from now on is planned by this line.

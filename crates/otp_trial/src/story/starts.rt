@@ -1,7 +1,7 @@
 //! Which child a process was started for.
 
 ghost use Rattle.std.specs.Prelude.{◌≡◌, ◌<◌, ◌++◌, IfSome, OnOk, count_by, length, position};
-ghost use Rattle.std.specs.List.{flat_map, list_any};
+ghost use Rattle.std.specs.List.{list_any};
 ghost use Rattle.otp_trial.specs.Starts.{is_of_id, is_start_of};
 ghost use Rattle.otp_trial.specs.Starts.{is_of, start_found, start_in, starts_in};
 

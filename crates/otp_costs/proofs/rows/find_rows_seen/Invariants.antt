@@ -6,4 +6,4 @@ use Rattle.otp_costs.proofs.rows.find_rows_seen.Given as goal
 
 abbrev pub invariant-loop-place : goal.invariant-loop-place
 invariant-loop-place g l =
-    (each : List Row) × (AreRowsFrom l.grain l.pick l.tree l.seats.items 0 (take l.place l.seats.items) each × (l.rows.items ≡ ranked is_worse [] each))
+    (each : List Row) × (AreRowsFrom l.grain l.pick l.tree l.seats.items 0 (take l.place l.seats.items) each × ((l.rows.items ≡ ranked is_worse [] each) × (l.player ≡ l.tree)))

@@ -1,4 +1,4 @@
-use Rattle.std.proofs.Common.{◌≡◌, ◌≤◌, ℕ, arith, max}
+use Rattle.std.proofs.Common.{◌≡◌, arith, max}
 use Rattle.otp_script.specs.Lines.{saying}
 use Rattle.otp_trial.proofs.Doings.{often_first, often_more, times_all, times_some}
 use Rattle.otp_trial.proofs.steps.do_each.Goals as goal

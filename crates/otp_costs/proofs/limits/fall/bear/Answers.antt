@@ -1,13 +1,20 @@
-use Rattle.std.proofs.lemmas.Result.{IfOk-at_ok, IfOk-weaker}
-use Rattle.otp_trial.specs.Played.{Stand}
-use Rattle.otp_costs.specs.Falls.{Bears, FallsSo, OpensTree}
+use Rattle.std.proofs.Common.{List, false, map, subst}
+use Rattle.std.proofs.lemmas.Result.{IfOk-weaker}
+use Rattle.otp_trial.specs.Played.{Seated, fresh}
+use Rattle.otp_costs.specs.Falls.{Bears, BearsFrom}
 use Rattle.otp_costs.proofs.limits.fall.bear.Goals as goal
 
 pub returns : goal.returns
 returns c =
-    let opened : Stand = c.in_ok-trial.trial in
-    let opens : OpensTree c.args.change c.args.tree.now c.args.place opened =
-    IfOk-at_ok (λ (t : Stand). OpensTree c.args.change c.args.tree.now c.args.place t) c.in_ok-trial.was c.open.ensures in
-    IfOk-weaker c.bear_in-root.result (λ fate. FallsSo c.args.count c.args.place c.args.id.now opened fate c.bear_in-root.new.trial)
-    (λ fate. Bears c.args.change c.args.tree.now c.args.place c.args.id.now c.args.count fate)
-    (λ fate falls. record { opened = opened; opens = opens; after = c.bear_in-root.new.trial; falls = falls }) c.bear_in-root.ensures
+    let planted : List Seated = c.in_ok-trial.trial.seats in
+    IfOk-weaker c.bear_from-root.result (λ root. BearsFrom (map fresh planted) c.args.place c.args.id.now c.args.count root c.bear_from-root.new.trial)
+    (λ root. Bears c.args.change c.args.tree.now c.args.place c.args.id.now c.args.count root)
+    (λ root bears.
+    let from = subst (λ (s : List Seated). BearsFrom s c.args.place c.args.id.now c.args.count root c.bear_from-root.new.trial)
+    (c.trees_are_kept.ensures.fresh c.args.change false c.args.tree.now planted c.in_ok-trial.ensures.planted) bears in
+    record {
+      opened = from.opened;
+      opens = record { planted = planted; is_planted = c.in_ok-trial.ensures.planted; opens = from.opens };
+      after = c.bear_from-root.new.trial;
+      falls = from.falls;
+    }) c.bear_from-root.ensures

@@ -1,5 +1,5 @@
 use Rattle.std.proofs.Common.{◌≡◌, ◌++◌, drop}
-use Rattle.otp_costs.proofs.rows.put_names.Given as goal
+use Rattle.otp_costs.proofs.limits.list.put_names.Given as goal
 
 abbrev pub invariant-loop-name : goal.invariant-loop-name
 invariant-loop-name l = l.copy ++ drop l.name-index l.names ≡ l.fn.copy ++ l.names
