@@ -36,7 +36,7 @@ a line says how long each child was down.
 Last comes a verdict: whether the root survived, and who gave up. What is
 expected and isn't so gives status 6, so a script is a test of a restart policy.
 One that expects nothing gives 0 whatever ends. A supervisor that gave up may be
-up again: expect restarts sub 0 asks that it never did.
+up again: the verdict says so, and expect restarts sub 0 isn't met then.
 
 Example:
 
