@@ -26,7 +26,7 @@ every TIME N times ..  as N lines +TIME ..
 # TEXT                 says nothing
 
 TIME is a number with ms, s, m or h behind it, as 500ms, 1.5s or 2m. CHILD is an
-id, or a process number as #3. Below the root it has its path, as sub/x; a line
+ID, or a process number as #3. Below the root both have a path, as sub/x; a line
 that begins with sub/ and a space is said to that supervisor, as sub/ expect up.
 A REASON is normal, shutdown, kill, killed, noproc, shutdown:TEXT or error:TEXT.
 
