@@ -2,8 +2,10 @@
 use Rattle.std.specs.Prelude.{◌≡◌, ◌<◌, ◌⊎◌, ⊤, ℕ, Option, Some, None, map, slice_get}
 use Rattle.otp_draft.specs.Faults.{IsOfDraft, finish_fault}
 use Rattle.otp_draft.specs.Plans.{Planned, numbered}
-use Rattle.otp_draft.specs.Trees.{Tree, plans_of}
+use Rattle.otp_draft.specs.Trees.{Tree, plans_of, size}
 use Rattle.otp_draft.specs.declared.fault.Refused.{Refused}
+use Rattle.otp_close.specs.Closes.{HaveBegun, IsReportOf}
+use Rattle.otp_close.specs.declared.report.report.Report.{Report}
 use Rattle.otp_run.specs.Rule.{all_parts}
 use Rattle.otp_spec.specs.Supervisor.{Supervisor}
 use Rattle.otp_tree.specs.Closes.{IsRunMismatchOnly, IsRunNoneMissing}
@@ -71,3 +73,12 @@ module _ {J S : Type 0} where
   IsNotGrown tree (not_added.Unfinished back) = IsUnfinished tree back
   IsNotGrown tree (not_added.Unadded back) = ⊤
   IsNotGrown tree (not_added.Over plans) = ⊤
+
+-- the report of a run of a tree that was drawn up
+pub record IsRunOfDraft {J S : Type 0} (root : Tree J S) (report : Report J S) : Type 0 where
+  -- it has each supervisor of the tree, in the order of its paths, and is one that `close_tree` can give
+  pub whole : IsReportOf (size root) report
+  -- each supervisor's core began with the flags and the specifications that the tree has under its number, never opened
+  pub begun : HaveBegun (supervisors_of root) report.tables.items
+  -- the draft had no fault
+  pub lawful : finish_fault root ≡ None

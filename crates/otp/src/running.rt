@@ -7,7 +7,7 @@ ghost use Rattle.otp_run.specs.Rule.{all_parts};
 ghost use Rattle.otp_spec.specs.declared.limits.TheConstants.{MAX_TABLES};
 ghost use Rattle.otp_close.specs.Closes.{HaveBegun, IsMismatchOnly, IsReportOf, NoneMissing, report_in};
 ghost use Rattle.otp_open.specs.Plans.{HaveBodies};
-ghost use Rattle.otp.specs.Runs.{IsBack, IsUnfinished, seen_in_tree, supervisors_of};
+ghost use Rattle.otp.specs.Runs.{IsBack, IsRunOfDraft, IsUnfinished, seen_in_tree, supervisors_of};
 
 use crate::fault::Unrun;
 use crate::watching::{AtPaths, paths_for};
@@ -130,10 +130,7 @@ where
     J: Job + Send,
     S: Subsystem + Send,
     W: Watch + Sync,
-    ensures report { IfOk result (IsReportOf (size root)) }
-    // Each supervisor's core began with the flags and the specifications that the tree has under its number, never opened.
-    ensures plans { IfOk result (λ report. HaveBegun (supervisors_of root) report.tables.items) }
-    ensures lawful { OnOk result (finish_fault root ≡ None) }
+    ensures run { IfOk result (IsRunOfDraft root) }
     ensures back { IfErr result (IsBack hands root) }
 {
     let callers = Vec::new(alloc);
@@ -161,10 +158,7 @@ where
     J: Job + Send,
     S: Subsystem + Send,
     W: Watch + Sync,
-    ensures report { IfOk result (IsReportOf (size root)) }
-    // Each supervisor's core began with the flags and the specifications that the tree has under its number, never opened.
-    ensures plans { IfOk result (λ report. HaveBegun (supervisors_of root) report.tables.items) }
-    ensures lawful { OnOk result (finish_fault root ≡ None) }
+    ensures run { IfOk result (IsRunOfDraft root) }
     ensures back { IfErr result (IsBack hands root) }
 {
     let tree = GrowingTree { root, room: 0 };
@@ -279,9 +273,7 @@ where
     S: Subsystem + Send,
     G: Gate + Sync,
     ensures counts { IfOk result (λ run. length run.counts.items ≡ size root) }
-    ensures report { IfOk result (λ run. IsReportOf (size root) run.report) }
-    ensures plans { IfOk result (λ run. HaveBegun (supervisors_of root) run.report.tables.items) }
-    ensures lawful { OnOk result (finish_fault root ≡ None) }
+    ensures run { IfOk result (λ run. IsRunOfDraft root run.report) }
     ensures back { IfErr result (IsBack hands root) }
 {
     let plans = plans_for(alloc, root, hands)?;
@@ -305,10 +297,7 @@ where
     J: Job + Send,
     S: Subsystem + Send,
     G: Gate + Sync,
-    ensures report { IfOk result (IsReportOf (size root)) }
-    // Each supervisor's core began with the flags and the specifications that the tree has under its number, never opened.
-    ensures plans { IfOk result (λ report. HaveBegun (supervisors_of root) report.tables.items) }
-    ensures lawful { OnOk result (finish_fault root ≡ None) }
+    ensures run { IfOk result (IsRunOfDraft root) }
     ensures back { IfErr result (IsBack hands root) }
 {
     match run_counted(rt, alloc, root, hands, gate, turns) {

@@ -37,7 +37,7 @@ pub(crate) const LIMITS_ABOUT: &str =
     "Says what each child's failure costs: which crashes are survived";
 
 pub(crate) const LIMITS_EXAMPLE: &str =
-    "Example: otp limits examples/storm.toml\nburst: so many crashes at once are survived; interval: crashes so far apart are\nsurvived, and with a millisecond less not; stops, starts: so many processes one\ncrash stops and starts, with all below them; root, where supervisors stand\nbelow: so many crashes the root survives.\nOTP counts restarts in whole seconds, and may need a longer interval, which\nstands below the table. With --json each of `rows` has `children`, alike ones\ntogether, and these numbers by their names.\nStatuses: 0 the table was written, 1 the file says no tree (`otp check FILE`\nsays why) or can't be read, 2 the words, 3 2^62 events, 4 output or memory.\nFormats: docs/FORMATS.md, under Limits.";
+    "Example: otp limits examples/storm.toml\nburst: so many crashes at once are survived; interval: crashes so far apart are\nsurvived, and with a millisecond less not; stops, starts: so many processes one\ncrash stops and starts, with all below them; root, where supervisors stand\nbelow: so many at once the root survives.\nOTP counts restarts in whole seconds, and may need a longer interval, which\nstands below the table. With --json each of `rows` has `children`, alike ones\ntogether, and these numbers by their names.\nStatuses: 0 the table was written, 1 the file says no tree (`otp check FILE`\nsays why) or can't be read, 2 the words, 3 2^62 events, 4 output or memory.\nFormats: docs/FORMATS.md, under Limits.";
 
 pub(crate) const CHILD_HELP: &str =
     "The child with this name alone, as pool/worker, with\nall that it stops";

@@ -26,17 +26,18 @@ every TIME N times ..  as N lines +TIME ..
 # TEXT                 says nothing
 
 TIME is a number with ms, s, m or h behind it, as 500ms, 1.5s or 2m. CHILD is an
-id, or a process number as #3. Below the root it has its path, as sub/x; a line
+ID, or a process number as #3. Below the root both have a path, as sub/x; a line
 that begins with sub/ and a space is said to that supervisor, as sub/ expect up.
 A REASON is normal, shutdown, kill, killed, noproc, shutdown:TEXT or error:TEXT.
 
-Where a start or an end takes time, let the clock go past it, as by at 20s: then
-a line says how long each child was down.
+Starts and ends take no time, but for init, slow and hang. Where one does, let
+the clock go past it, as by at 20s: then a line says how long each child was
+down.
 
 Last comes a verdict: whether the root survived, and who gave up. What is
 expected and isn't so gives status 6, so a script is a test of a restart policy.
 One that expects nothing gives 0 whatever ends. A supervisor that gave up may be
-up again: expect restarts sub 0 asks that it never did.
+up again: the verdict says so, and expect restarts sub 0 isn't met then.
 
 Example:
 
@@ -102,7 +103,8 @@ start          a name for what starts it (has to be there): the module of OTP's
                {M, F, A}; of otp run a word of `otp help run`
 restart        permanent (default): whenever it ends. transient: where it ends
                by an error, and not by normal, shutdown or shutdown:TEXT.
-               temporary: never; a restart of its siblings deletes it
+               temporary: never; what stops it for a sibling's restart deletes
+               it, too
 significant    false (default); true: its end counts for auto_shutdown, which
                then may not be never, nor the child be permanent. The end of a
                transient one counts where it isn't started again
@@ -171,10 +173,10 @@ lines NAME PATH: NAME as the log has it, also SUP/NAME with its supervisor's;
 PATH as the tree has it, or - to leave it out. An end of a child that isn't in
 the tree is left out there; with --strict it gives status 5, as in plain lines.
 
-Times. The first line that is played is time zero, and what is told has both the
-seconds since then and the log's own time. A time without an offset is UTC; one
-that is earlier than the line before is taken as that line's, and refused in
-plain lines.
+Times. The first line that is played is time zero, and what is told has the
+seconds since then; each played line is told with the log's own time. A time
+without an offset is UTC; one that is earlier than the line before is taken as
+that line's, and refused in plain lines.
 
 Example:
 

@@ -1,6 +1,6 @@
 -- What is told of a tree that was not taken apart, and of one that was.
 use Rattle.std.proofs.Common.{◌≡◌, ℕ, List, subst, sym, ap, ◌∙◌}
-use Rattle.std.specs.Prelude.{Some, Result, Ok, Err, IfErr, IfSome, is_some}
+use Rattle.std.specs.Prelude.{Option, Some, None, Result, Ok, Err, IfErr, IfSome, is_some}
 use mathlib.Core.Bool.{true≢false}
 use Rattle.otp_run.specs.Gathers.{IsAll}
 use Rattle.otp_run.specs.Schedulers.{SchedulerState}
@@ -10,9 +10,11 @@ use Rattle.otp_close.specs.declared.closing.Refusal.{Refusal}
 use Rattle.otp_close.specs.declared.closing.Refusal.TheVariants as refusal
 use Rattle.otp_close.specs.declared.closing.Intact.{Intact}
 use Rattle.otp_close.specs.declared.report.report.Report.{Report}
-use Rattle.otp_close.specs.Closes.{IsIntact, IsMismatchOnly, IsMissingOnly, IsReached, IsRefusalOf, NoneMissing, all_senders, kept_in, report_in}
+use Rattle.otp_close.specs.Closes.{HaveBegun, IsIntact, IsMismatchOnly, IsMissingOnly, IsReached, IsRefusalOf, NoneMissing, all_senders, kept_in, report_in}
+use Rattle.otp_close.specs.Closings.{IsReportFrom}
 use Rattle.otp_close.specs.Gathers.{IsHandsRefused}
 use Rattle.otp_hand.specs.Hands.{HandView, TreeClientView, SystemView}
+use Rattle.otp_spec.specs.Supervisor.{Supervisor}
 
 module _ {J S : Type 0} where
   -- what is known of as many supervisors and the same hands
@@ -92,6 +94,13 @@ module _ {N J S : Type 0} where
   unreached-missing complete shared hands client (fault.Missing k) isnt refused = isnt
   unreached-missing complete shared hands client (fault.Misplaced k d) isnt refused = tt
   unreached-missing complete shared hands client (fault.Mismatch m report) isnt refused = tt
+
+module _ {J S : Type 0} where
+  -- each supervisor of a report, if there is one, began by its plan
+  pub begun_from : (plans : ℕ → Option Supervisor) (shared : SystemView) (hands : List (HandView J S)) (client : TreeClientView) (there : Option (Report J S))
+      → IfSome there (IsReportFrom plans shared hands client) → IfSome there (λ report. HaveBegun plans report.tables.items)
+  begun_from plans shared hands client (Some report) from = from.plans
+  begun_from plans shared hands client None none = tt
 
 module _ {J S K : Type 0} where
   -- of a tree that is whole no part is said to be missing

@@ -1,4 +1,5 @@
 pub mod Closes
+pub mod Closings
 pub mod Gathers
 pub mod Leavings
 pub mod Marks

@@ -1,22 +1,20 @@
 //! A tree is taken apart, once all its hands and its client are back.
-ghost use Rattle.std.specs.Prelude.{◌≡◌, ◌+◌, ◌<◌, ◌≤◌, ◌∷◌, [], All, Err, IfErr, IfOk, IfSome, OnSome, Some, length, map, sum_by, vec_capacity};
+ghost use Rattle.std.specs.Prelude.{◌≡◌, ◌+◌, ◌<◌, ◌≤◌, ◌∷◌, [], All, Err, IfErr, IfOk, IfSome, Some, length, map, sum_by, vec_capacity};
 ghost use Rattle.otp_inbox.specs.Lists.{AsOften, EachInOrder};
 ghost use Rattle.otp_inbox.specs.Tokens.{all_sent, sent_lists};
 ghost use Rattle.otp_rules.specs.Needs.{numbers_of};
-ghost use Rattle.otp_run.specs.Gathers.{IsLiveTotal, begun_of, ended_of};
-ghost use Rattle.otp_run.specs.Rule.{ticket_of};
 ghost use Rattle.otp_run.specs.Lists.{AllAt};
 ghost use Rattle.otp_signals.specs.Lists.{AllIn, NoneInBoth};
 ghost use Rattle.otp_close.specs.Totals.{HasAllStarts, starts_of, unsent_of, HasAllEnds, HasHeard, ends_of};
 ghost use Rattle.otp_hand.specs.Begun.{starts_credited};
-ghost use Rattle.otp_hand.specs.Ended.{ends_sent, held_by};
-ghost use Rattle.otp_close.specs.Closes.{AreApart, HasTables, IsFreeFrom, HasBegun, HasTold, HaveBegun, IsComplete, IsIntact, IsMismatchOnly, IsMissingOnly, IsReached, IsRefusalOf, IsReportOf, NoneMissing, all_senders, kept_in, report_in};
+ghost use Rattle.otp_hand.specs.Ended.{ends_sent};
+ghost use Rattle.otp_close.specs.Closes.{AreApart, HasTables, IsFreeFrom, HasBegun, HasTold, HaveBegun, IsComplete, IsIntact, IsMismatchOnly, IsMissingOnly, IsReached, IsRefusalOf, IsReportOf, NoneMissing, kept_in, report_in};
+ghost use Rattle.otp_close.specs.Closings.{IsReportFrom};
 ghost use Rattle.otp_bodies.specs.Messages.{items_in};
 ghost use Rattle.otp_close.specs.Leavings.{AreAccounted, AreInOrder, HasCome, HasUnsent, HaveCome, IsLast, IsLastInOrder, line_of, lists_at};
 ghost use Rattle.otp_close.specs.Tables.{AreOfTables, IsOfTable, shares_at};
 ghost use Rattle.otp_hand.specs.Standings.{standings};
 ghost use Rattle.otp_hand.specs.Sendings.{sent_at};
-ghost use Rattle.otp_close.specs.Partings.{schedulers_of};
 ghost use Rattle.otp_close.specs.Settlings.{AreReady, IsLoose, IsReady, held_in, senders_in};
 ghost use Rattle.otp_close.specs.Tellings.{AreSo};
 ghost use Rattle.otp_sup.specs.Plans.{AreAllPlanned, IsBegunBy};
@@ -112,44 +110,8 @@ pub fn close<N: TreeNaming, J: Drop, S: Drop, R: Wait>(
     known: usize,
 ) -> Result<Report<J, S>, CloseFault<J, S, Intact<N, J, S>>>
     requires { IsFreeFrom N.plan shared.tables known }
-    // All parts were there, if there is a report.
-    ensures complete { OnSome (report_in result) (IsComplete shared hands.items client) }
-    // It has each supervisor that had a plan when the tree got its name, and others that did something, or got something.
-    ensures count { IfSome (report_in result) (λ report. HasTables N.plan shared.tables (length report.tables.items)) }
-    // Each process that a hand put was found or is left, and what is live is what is left and what hands have out.
-    ensures live { IfSome (report_in result) (λ report. IsLiveTotal (schedulers_of hands.items) report.live (map ticket_of report.processes.items)) }
-    ensures begun { IfSome (report_in result) (λ report. report.begun ≡ sum_by begun_of (schedulers_of hands.items)) }
-    ensures ended { IfSome (report_in result) (λ report. report.ended ≡ sum_by ended_of (schedulers_of hands.items)) }
-    // What began is the root's process, and those whose starts were sent: of all starts of all histories those that were
-    // not still to be sent.
-    ensures starts { IfSome (report_in result) (λ report. HasAllStarts report) }
-    // As many ended as notes of ends are among what the supervisors took and left, were told whoever opened the tree, or were
-    // still to be sent.
-    ensures ends { IfSome (report_in result) (λ report. HasAllEnds report) }
-    ensures heard { IfSome (report_in result) (λ report. HasHeard client.waiter report.heard) }
-    ensures held { IfSome (report_in result) (λ report. report.held ≡ sum_by held_by hands.items) }
-    // Each core began as the supervisor of its plan, never opened: with that plan's flags and specifications.
-    ensures plans { IfSome (report_in result) (λ report. HaveBegun N.plan report.tables.items) }
-    ensures begins { IfSome (report_in result) (λ report. All HasBegun report.tables.items) }
-    // Each end of another supervisor that its history was told is for the note's reason, and shown.
-    ensures shown { IfSome (report_in result) (λ report. All HasTold report.tables.items) }
-    // No process number is in the histories of two supervisors.
-    ensures apart { IfSome (report_in result) (λ report. AreApart report.tables.items) }
-    // The items of each supervisor's history and those left in its inbox are as often as all hands and the client sent
-    // them to it; and so it is with those that the client took of the root's, and the last.
-    ensures left { IfSome (report_in result) (λ report. AreAccounted (all_senders client hands.items) report.tables.items) }
-    // Each came with the end that it was sent with, and the ends that a history was told are those that came with what it took.
-    ensures come { IfSome (report_in result) (λ report. HaveCome (all_senders client hands.items) report.tables.items) }
-    // Each sender's items stand there in the order in which it sent them.
-    ensures order { IfSome (report_in result) (λ report. AreInOrder (all_senders client hands.items) report.tables.items) }
-    ensures last_order { IfSome (report_in result) (λ report. IsLastInOrder shared.tables (all_senders client hands.items) client.waiter report.last.items) }
-    ensures last { IfSome (report_in result) (λ report. IsLast shared.tables (all_senders client hands.items) client.waiter report.last.items) }
-    // The first orders of each history were sent, in their order, and the words of these posted; the others, so many as the report
-    // says, were still to be sent. One start at most is among them.
-    ensures unsent { IfSome (report_in result) (λ report. All HasUnsent report.tables.items) }
-    // Each report is that of the supervisor with its place's inbox, which kept the rules. What it took and left is what was sent to
-    // it; and for each start that it sent, each event and each time that it found its inbox empty a sender was credited.
-    ensures tables { IfSome (report_in result) (λ report. AreOfTables N.plan (all_senders client hands.items) report.tables.items) }
+    // What the report says of these parts, where there is one, also with a mismatch.
+    ensures report { IfSome (report_in result) (IsReportFrom N.plan shared hands.items client) }
     // Each end that a supervisor was told of another is one that the other's history gives.
     ensures told { IfOk result (λ report. AreSo report.tables.items) }
     ensures mismatch { IfErr result IsMismatchOnly }

@@ -1,10 +1,9 @@
 //! A tree that runs until it has ended, and to which supervisors can be added meanwhile.
-ghost use Rattle.std.specs.Prelude.{◌<◌, ◌≤◌, length, IfErr, IfOk, OnOk};
+ghost use Rattle.std.specs.Prelude.{◌<◌, ◌≤◌, length, IfErr, IfOk};
 ghost use Rattle.otp_spec.specs.declared.limits.TheConstants.{MAX_TABLES};
 ghost use Rattle.otp_run.specs.Rule.{all_parts};
-ghost use Rattle.otp_close.specs.Closes.{HasTables, HaveBegun, IsReportOf};
-ghost use Rattle.otp_tree.specs.Closes.{IsRunMismatchOnly, IsRunNoneMissing, IsRunOpenFault};
-ghost use Rattle.otp_open.specs.Plans.{HaveBodies, plans_of};
+ghost use Rattle.otp_open.specs.Plans.{plans_of};
+ghost use Rattle.otp_tree.specs.Runs.{IsGrownRun, IsUnrun};
 ghost use Rattle.otp_live.specs.Shortened.{IsCutShort};
 
 use crate::calling::Caller;
@@ -55,18 +54,8 @@ where
     requires places { tree.places ≤ MAX_TABLES }
     requires some { 0 < hands }
     requires few { hands ≤ all_parts }
-    // The report is one that `close_tree` can give. It has each supervisor of the plans, and those that were added.
-    ensures report { IfOk result (λ report. IsReportOf (length report.tables.items) report) }
-    ensures count { IfOk result (λ report. HasTables (plans_of tree.plans.items) tree.places (length report.tables.items)) }
-    // Each core began as the supervisor of the plan at its place in the list, never opened; one that was added as some supervisor.
-    ensures plans { IfOk result (λ report. HaveBegun (plans_of tree.plans.items) report.tables.items) }
-    ensures mismatch { IfErr result IsRunMismatchOnly }
-    // All parts of the tree are there when it is closed, since nobody else has one.
-    ensures missing { IfErr result IsRunNoneMissing }
-    // Each plan has a body for each child that an opening makes; or that is why it isn't run, or memory was refused, and the plans
-    // come back as they were.
-    ensures bodies { OnOk result (HaveBodies tree.plans.items) }
-    ensures opened { IfErr result (IsRunOpenFault tree.plans.items) }
+    ensures run { IfOk result (IsGrownRun (plans_of tree.plans.items) tree.places tree.plans.items) }
+    ensures unrun { IfErr result (IsUnrun tree.plans.items) }
 {
     let Growing { plans, places } = tree;
     let known = plans.len();

@@ -1,11 +1,10 @@
 //! A tree runs until it has ended.
-ghost use Rattle.std.specs.Prelude.{◌≡◌, ◌<◌, ◌≤◌, length, IfErr, IfOk, OnOk};
+ghost use Rattle.std.specs.Prelude.{◌≡◌, ◌<◌, ◌≤◌, length, IfErr, IfOk};
 ghost use Rattle.otp_spec.specs.declared.limits.TheConstants.{MAX_TABLES};
 ghost use Rattle.otp_run.specs.Rule.{all_parts};
-ghost use Rattle.otp_close.specs.Closes.{HasTables, HaveBegun, IsReportOf};
 ghost use Rattle.otp_hand.specs.Standings.{standing_of};
-ghost use Rattle.otp_tree.specs.Closes.{IsRunMismatchOnly, IsRunNoneMissing, IsRunOpenFault};
-ghost use Rattle.otp_open.specs.Plans.{HaveBodies, first_plans, plans_of};
+ghost use Rattle.otp_open.specs.Plans.{first_plans};
+ghost use Rattle.otp_tree.specs.Runs.{IsGrownRun, IsRunOf, IsUnrun};
 
 use crate::calling::Caller;
 use crate::calling::locked::{Locked, ReachNaming};
@@ -59,17 +58,9 @@ where
     requires tables { length plans.items ≤ MAX_TABLES }
     requires some { 0 < hands }
     requires few { hands ≤ all_parts }
-    // The report has each supervisor of the plans, and is one that `close_tree` can give.
-    ensures report { IfOk result (IsReportOf (length plans.items)) }
-    // Each core began as the supervisor of the plan at its place in the list, never opened.
-    ensures plans { IfOk result (λ report. HaveBegun (plans_of plans.items) report.tables.items) }
-    ensures mismatch { IfErr result IsRunMismatchOnly }
-    // All parts of the tree are there when it is closed, since nobody else has one.
-    ensures missing { IfErr result IsRunNoneMissing }
-    // Each plan has a body for each child that an opening makes; or that is why it isn't run, or memory was refused, and the plans
-    // come back as they were.
-    ensures bodies { OnOk result (HaveBodies plans.items) }
-    ensures opened { IfErr result (IsRunOpenFault plans.items) }
+    // What each says part by part: `Runs` of otp_tree's definitions.
+    ensures run { IfOk result (IsRunOf plans.items) }
+    ensures unrun { IfErr result (IsUnrun plans.items) }
 {
     let callers = Vec::new(alloc);
     run_with_callers(rt, alloc, plans, hands, stop, watch, callers.as_slice())
@@ -93,16 +84,8 @@ where
     requires tables { length plans.items ≤ MAX_TABLES }
     requires some { 0 < hands }
     requires few { hands ≤ all_parts }
-    ensures report { IfOk result (IsReportOf (length plans.items)) }
-    // Each core began as the supervisor of the plan at its place in the list, never opened.
-    ensures plans { IfOk result (λ report. HaveBegun (plans_of plans.items) report.tables.items) }
-    ensures mismatch { IfErr result IsRunMismatchOnly }
-    // All parts of the tree are there when it is closed, since nobody else has one.
-    ensures missing { IfErr result IsRunNoneMissing }
-    // Each plan has a body for each child that an opening makes; or that is why it isn't run, or memory was refused, and the plans
-    // come back as they were.
-    ensures bodies { OnOk result (HaveBodies plans.items) }
-    ensures opened { IfErr result (IsRunOpenFault plans.items) }
+    ensures run { IfOk result (IsRunOf plans.items) }
+    ensures unrun { IfErr result (IsUnrun plans.items) }
 {
     run_spanned(
         rt,
@@ -138,16 +121,8 @@ where
     requires tables { length plans.items ≤ MAX_TABLES }
     requires some { 0 < hands }
     requires few { hands ≤ all_parts }
-    ensures report { IfOk result (IsReportOf (length plans.items)) }
-    // Each core began as the supervisor of the plan at its place in the list, never opened.
-    ensures plans { IfOk result (λ report. HaveBegun (plans_of plans.items) report.tables.items) }
-    ensures mismatch { IfErr result IsRunMismatchOnly }
-    // All parts of the tree are there when it is closed, since nobody else has one.
-    ensures missing { IfErr result IsRunNoneMissing }
-    // Each plan has a body for each child that an opening makes; or that is why it isn't run, or memory was refused, and the plans
-    // come back as they were.
-    ensures bodies { OnOk result (HaveBodies plans.items) }
-    ensures opened { IfErr result (IsRunOpenFault plans.items) }
+    ensures run { IfOk result (IsRunOf plans.items) }
+    ensures unrun { IfErr result (IsUnrun plans.items) }
 {
     let Ok(stop) = StopFlag::new(alloc) else {
         return Err(RunFault::Open(Unopened::for_memory(plans)));
@@ -184,16 +159,8 @@ where
     requires tables { length plans.items ≤ MAX_TABLES }
     requires some { 0 < hands }
     requires few { hands ≤ all_parts }
-    ensures report { IfOk result (IsReportOf (length plans.items)) }
-    // Each core began as the supervisor of the plan at its place in the list, never opened.
-    ensures plans { IfOk result (λ report. HaveBegun (plans_of plans.items) report.tables.items) }
-    ensures mismatch { IfErr result IsRunMismatchOnly }
-    // All parts of the tree are there when it is closed, since nobody else has one.
-    ensures missing { IfErr result IsRunNoneMissing }
-    // Each plan has a body for each child that an opening makes; or that is why it isn't run, or memory was refused, and the plans
-    // come back as they were.
-    ensures bodies { OnOk result (HaveBodies plans.items) }
-    ensures opened { IfErr result (IsRunOpenFault plans.items) }
+    ensures run { IfOk result (IsRunOf plans.items) }
+    ensures unrun { IfErr result (IsUnrun plans.items) }
 {
     let known = plans.len();
     match run_places(rt, alloc, plans, known, hands, stop, span, watch, callers) {
@@ -222,13 +189,8 @@ where
     requires tables { length plans.items ≤ MAX_TABLES }
     requires some { 0 < hands }
     requires few { hands ≤ all_parts }
-    ensures report { IfOk result (λ report. IsReportOf (length report.tables.items) report) }
-    ensures count { IfOk result (λ report. HasTables (first_plans known plans.items) (length plans.items) (length report.tables.items)) }
-    ensures plans { IfOk result (λ report. HaveBegun (first_plans known plans.items) report.tables.items) }
-    ensures mismatch { IfErr result IsRunMismatchOnly }
-    ensures missing { IfErr result IsRunNoneMissing }
-    ensures bodies { OnOk result (HaveBodies plans.items) }
-    ensures opened { IfErr result (IsRunOpenFault plans.items) }
+    ensures run { IfOk result (IsGrownRun (first_plans known plans.items) (length plans.items) plans.items) }
+    ensures unrun { IfErr result (IsUnrun plans.items) }
 {
     let clock = Stopwatch::start(rt);
     let Ok(crew) = gather(

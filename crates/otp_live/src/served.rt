@@ -1,13 +1,12 @@
 //! A tree is opened, served by each hand in a thread of its own, and closed.
-ghost use Rattle.std.specs.Prelude.{◌≡◌, ◌<◌, ◌≤◌, ℕ, length, IfErr, IfOk, None, OnOk};
+ghost use Rattle.std.specs.Prelude.{◌≡◌, ◌<◌, ◌≤◌, ℕ, length, IfErr, IfOk, None};
 ghost use Rattle.otp_spec.specs.declared.limits.TheConstants.{MAX_TABLES};
 ghost use Rattle.otp_run.specs.Lists.{AllAt};
 ghost use Rattle.otp_run.specs.Rule.{all_parts};
-ghost use Rattle.otp_close.specs.Closes.{HasTables, HaveBegun, IsReportOf};
 ghost use Rattle.otp_hand.specs.Standings.{reach_of, standing_of, standings};
-ghost use Rattle.otp_tree.specs.Closes.{IsRunMismatchOnly, IsRunNoneMissing, IsRunOpenFault};
 ghost use Rattle.otp_open.specs.Opens.{slots_of};
-ghost use Rattle.otp_open.specs.Plans.{ArePlanned, HaveBodies, first_plans};
+ghost use Rattle.otp_open.specs.Plans.{ArePlanned, first_plans};
+ghost use Rattle.otp_tree.specs.Runs.{IsGrownRun, IsUnrun};
 
 use crate::calling::locked::{Locked, ReachNaming};
 use crate::crew::Crew;
@@ -49,13 +48,8 @@ where
     requires tables { length plans.items ≤ MAX_TABLES }
     requires some { 0 < hands }
     requires few { hands ≤ all_parts }
-    ensures report { IfOk result (λ report. IsReportOf (length report.tables.items) report) }
-    ensures count { IfOk result (λ report. HasTables (first_plans known plans.items) (length plans.items) (length report.tables.items)) }
-    ensures plans { IfOk result (λ report. HaveBegun (first_plans known plans.items) report.tables.items) }
-    ensures mismatch { IfErr result IsRunMismatchOnly }
-    ensures missing { IfErr result IsRunNoneMissing }
-    ensures bodies { OnOk result (HaveBodies plans.items) }
-    ensures opened { IfErr result (IsRunOpenFault plans.items) }
+    ensures run { IfOk result (IsGrownRun (first_plans known plans.items) (length plans.items) plans.items) }
+    ensures unrun { IfErr result (IsUnrun plans.items) }
 {
     let parts = match Parts::open(alloc, plans, hands) {
         Ok(parts) => parts,
@@ -88,13 +82,8 @@ where
     requires slots { parts.words.slots ≡ slots_of (length parts.inboxes.items) }
     requires few { length parts.inboxes.items ≤ MAX_TABLES }
     requires some { 0 < length parts.queue }
-    ensures report { IfOk result (λ report. IsReportOf (length report.tables.items) report) }
-    ensures count { IfOk result (λ report. HasTables N.plan (length parts.inboxes.items) (length report.tables.items)) }
-    ensures plans { IfOk result (λ report. HaveBegun N.plan report.tables.items) }
-    ensures mismatch { IfErr result IsRunMismatchOnly }
-    ensures missing { IfErr result IsRunNoneMissing }
-    ensures bodies { OnOk result (HaveBodies parts.plans.items) }
-    ensures opened { IfErr result (IsRunOpenFault parts.plans.items) }
+    ensures run { IfOk result (IsGrownRun N.plan (length parts.inboxes.items) parts.plans.items) }
+    ensures unrun { IfErr result (IsUnrun parts.plans.items) }
 {
     let all = match parts.named_growing::<N>(alloc, known) {
         Ok(all) => all,

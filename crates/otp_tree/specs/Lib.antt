@@ -1,2 +1,3 @@
 pub mod Closes
 pub mod Adds
+pub mod Runs

@@ -56,51 +56,8 @@ pub fn with_system<R, J: Drop, S: Drop, T: Session<R, J, S>>(
     ensures fault { IfErr result (λ back. IsOpenFault plans.items back.fault) }
     ensures back { IfErr result (λ back. back.plans.items ≡ plans.items) }
 {
-    let parts = match Parts::open(alloc, plans, hands) {
-        Ok(parts) => parts,
-        Err(back) => {
-            drop(session);
-            return Err(back);
-        }
-    };
-    run_named::<Brand, R, J, S, T>(rt, alloc, parts, session)
-}
-
-// Whoever calls this picks the names, which the language allows for the traits alone that have them.
-fn run_named<
-    N: WordsNaming + InboxNaming + PlanNaming + RunNaming + Send + Sync,
-    R,
-    J: Drop,
-    S: Drop,
-    T: Session<R, J, S>,
->(rt: &R, alloc: Global, parts: Parts<J, S>, session: T) -> Result<T::Output, Unopened<J, S>>
-    requires words { parts.words.words ≡ N.words }
-    requires inboxes { AllAt (λ k id. id ≡ N.inbox k) parts.inboxes.items }
-    requires plans { ArePlanned N.plan parts.plans.items }
-    requires as_many { length parts.plans.items ≡ length parts.inboxes.items }
-    requires outer { parts.outer ≡ N.inbox (length parts.inboxes.items) }
-    requires deques { AllAt (λ k id. id ≡ N.deque k) parts.queue }
-    requires slots { parts.words.slots ≡ slots_of (length parts.inboxes.items) }
-    requires few { length parts.inboxes.items ≤ MAX_TABLES }
-    ensures bodies { OnOk result (HaveBodies parts.plans.items) }
-    ensures fault { IfErr result (λ back. IsOpenFault parts.plans.items back.fault) }
-    ensures back { IfErr result (λ back. back.plans.items ≡ parts.plans.items) }
-{
-    let opened = match parts.named::<N>(alloc) {
-        Ok(opened) => opened,
-        Err(back) => {
-            drop(session);
-            return Err(back);
-        }
-    };
-    let Opened {
-        system,
-        hands,
-        client,
-        passes,
-    } = opened;
-    drop(passes);
-    Ok(session.run::<N>(rt, system, hands, client))
+    let places = plans.len();
+    with_growing_system(rt, alloc, plans, places, hands, session)
 }
 
 /// Opens a tree for 1 to 8 hands that has places for so many supervisors, 1 to 64, and runs a session with it. The first have those of
@@ -170,10 +127,11 @@ fn run_padded<R, J: Drop, S: Drop, T: Session<R, J, S>>(
             return Err(back);
         }
     };
-    run_growing::<Brand, R, J, S, T>(rt, alloc, parts, opened, session)
+    run_named::<Brand, R, J, S, T>(rt, alloc, parts, opened, session)
 }
 
-fn run_growing<
+// Whoever calls this picks the names, which the language allows for the traits alone that have them.
+fn run_named<
     N: WordsNaming + InboxNaming + PlanNaming + RunNaming + Send + Sync,
     R,
     J: Drop,

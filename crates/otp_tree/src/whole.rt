@@ -1,13 +1,11 @@
 //! The whole life of a tree on threads, in one call.
-ghost use Rattle.std.specs.Prelude.{◌≡◌, ◌<◌, ◌≤◌, [], length, vec_capacity, IfErr, IfOk, OnOk, Some};
+ghost use Rattle.std.specs.Prelude.{◌≡◌, ◌<◌, ◌≤◌, [], length, vec_capacity, IfErr, IfOk, Some};
 ghost use Rattle.otp_spec.specs.declared.limits.TheConstants.{MAX_TABLES};
 ghost use Rattle.otp_run.specs.Lists.{AllAt};
 ghost use Rattle.otp_run.specs.Rule.{all_parts};
-ghost use Rattle.otp_close.specs.Closes.{HaveBegun, IsReportOf};
-ghost use Rattle.otp_tree.specs.Closes.{IsRunMismatchOnly, IsRunNoneMissing, IsRunOpenFault};
 ghost use Rattle.otp_hand.specs.Standings.{reach_of, standings};
 ghost use Rattle.otp_open.specs.Opens.{slots_of};
-ghost use Rattle.otp_open.specs.Plans.{HaveBodies, plans_of};
+ghost use Rattle.otp_tree.specs.Runs.{IsNamedRun, IsRunOf, IsUnrun};
 
 use crate::closing::finish_tree;
 use crate::opening::{Opened, Parts};
@@ -181,17 +179,9 @@ where
     requires few { hands ≤ all_parts }
     // The counts of each supervisor of the plans.
     ensures counts { IfOk result (λ run. length run.counts.items ≡ length plans.items) }
-    // The report has each supervisor of the plans, and is one that `close_tree` can give.
-    ensures report { IfOk result (λ run. IsReportOf (length plans.items) run.report) }
-    // Each core began as the supervisor of the plan at its place in the list, never opened.
-    ensures plans { IfOk result (λ run. HaveBegun (plans_of plans.items) run.report.tables.items) }
-    ensures mismatch { IfErr result IsRunMismatchOnly }
-    // All parts of the tree are there when it is closed, since nobody else has one.
-    ensures missing { IfErr result IsRunNoneMissing }
-    // Each plan has a body for each child that an opening makes; or that is why it isn't run, or memory was refused, and the plans
-    // come back as they were.
-    ensures bodies { OnOk result (HaveBodies plans.items) }
-    ensures opened { IfErr result (IsRunOpenFault plans.items) }
+    // What each says part by part: `Runs` of the definitions.
+    ensures run { IfOk result (λ run. IsRunOf plans.items run.report) }
+    ensures unrun { IfErr result (IsUnrun plans.items) }
 {
     let parts = Parts::open(alloc, plans, hands)?;
     run_named::<Brand, R, J, S, G>(rt, alloc, parts, gate, turns)
@@ -221,12 +211,8 @@ where
     requires few { length parts.inboxes.items ≤ MAX_TABLES }
     requires some { 0 < length parts.queue }
     ensures counts { IfOk result (λ run. length run.counts.items ≡ length parts.inboxes.items) }
-    ensures report { IfOk result (λ run. IsReportOf (length parts.inboxes.items) run.report) }
-    ensures plans { IfOk result (λ run. HaveBegun N.plan run.report.tables.items) }
-    ensures mismatch { IfErr result IsRunMismatchOnly }
-    ensures missing { IfErr result IsRunNoneMissing }
-    ensures bodies { OnOk result (HaveBodies parts.plans.items) }
-    ensures opened { IfErr result (IsRunOpenFault parts.plans.items) }
+    ensures run { IfOk result (λ run. IsNamedRun N.plan (length parts.inboxes.items) parts.plans.items run.report) }
+    ensures unrun { IfErr result (IsUnrun parts.plans.items) }
 {
     let Ok(mut counts) = Vec::with_capacity(alloc, parts.inboxes.len()) else {
         let back = Unopened::for_memory(parts.into_plans());
@@ -283,12 +269,8 @@ where
     requires tables { length plans.items ≤ MAX_TABLES }
     requires some { 0 < hands }
     requires few { hands ≤ all_parts }
-    ensures report { IfOk result (IsReportOf (length plans.items)) }
-    ensures plans { IfOk result (λ report. HaveBegun (plans_of plans.items) report.tables.items) }
-    ensures mismatch { IfErr result IsRunMismatchOnly }
-    ensures missing { IfErr result IsRunNoneMissing }
-    ensures bodies { OnOk result (HaveBodies plans.items) }
-    ensures opened { IfErr result (IsRunOpenFault plans.items) }
+    ensures run { IfOk result (IsRunOf plans.items) }
+    ensures unrun { IfErr result (IsUnrun plans.items) }
 {
     match run_tree_counted(rt, alloc, plans, hands, gate, turns) {
         Ok(CountedRun { counts: _, report }) => Ok(report),

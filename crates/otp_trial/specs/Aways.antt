@@ -12,8 +12,8 @@ use Rattle.otp_rules.specs.declared.event.Kind.TheVariants as kind
 use Rattle.otp_table.specs.Rows.{has_process, row_has}
 use Rattle.otp_table.specs.declared.row.Row.{Row}
 use Rattle.otp_trial.specs.declared.story.away.Away.{Away}
-use Rattle.otp_trial.specs.declared.story.away.Turn.{Turn}
-use Rattle.otp_trial.specs.declared.story.away.Turn.TheVariants as turn
+use Rattle.otp_trial.specs.declared.story.away.Presence.{Presence}
+use Rattle.otp_trial.specs.declared.story.away.Presence.TheVariants as presence
 
 unfoldable pub id_in : Option Row → Option Name
 id_in None = None
@@ -28,26 +28,26 @@ abbrev pub id_of : List Row → ℕ → Option Name
 id_of rows p = id_at rows (position (row_has (has_process p)) rows)
 
 -- this child has lost its process, if it has an id
-unfoldable pub left_by : Option Name → Option Turn
+unfoldable pub left_by : Option Name → Option Presence
 left_by None = None
-left_by (Some id) = Some (turn.Left id)
+left_by (Some id) = Some (presence.Left id)
 
 -- or it is up
-unfoldable pub up_by : Option Name → Option Turn
+unfoldable pub up_by : Option Name → Option Presence
 up_by None = None
-up_by (Some id) = Some (turn.Back id)
+up_by (Some id) = Some (presence.Back id)
 
 -- what a note says so of these children
-unfoldable pub turn_in : List Row → Note → Option Turn
-turn_in rows (note.Up p) = up_by (id_of rows p)
-turn_in rows (note.Ignored p) = None
-turn_in rows (note.Failed p r) = None
-turn_in rows (note.Exit p r) = left_by (id_of rows p)
+unfoldable pub presence_in : List Row → Note → Option Presence
+presence_in rows (note.Up p) = up_by (id_of rows p)
+presence_in rows (note.Ignored p) = None
+presence_in rows (note.Failed p r) = None
+presence_in rows (note.Exit p r) = left_by (id_of rows p)
 
 -- what an event of this kind says so of these children
-unfoldable pub turn_of : List Row → Kind → Option Turn
-turn_of rows (kind.Took (item.Note told)) = turn_in rows told
-turn_of rows _ = None
+unfoldable pub presence_of : List Row → Kind → Option Presence
+presence_of rows (kind.Took (item.Note told)) = presence_in rows told
+presence_of rows _ = None
 
 abbrev pub is_away : Name → Away → Bool
 is_away id away = bytes_eq (name_bytes away.id) (name_bytes id)
@@ -66,13 +66,13 @@ left_at now id None aways = aways ++ record { id = id; since = now } ∷ []
 left_at now id (Some at) aways = aways
 
 -- which children are away after that
-unfoldable pub aways_by : Option Turn → ℕ → List Away → List Away
+unfoldable pub aways_by : Option Presence → ℕ → List Away → List Away
 aways_by None now aways = aways
-aways_by (Some (turn.Left id)) now aways = left_at now id (position (is_away id) aways) aways
-aways_by (Some (turn.Back id)) now aways = without_away aways (position (is_away id) aways)
+aways_by (Some (presence.Left id)) now aways = left_at now id (position (is_away id) aways) aways
+aways_by (Some (presence.Back id)) now aways = without_away aways (position (is_away id) aways)
 
 -- the child that was away, and is up by that
-unfoldable pub back_by : Option Turn → List Away → Option Away
+unfoldable pub back_by : Option Presence → List Away → Option Away
 back_by None aways = None
-back_by (Some (turn.Left id)) aways = None
-back_by (Some (turn.Back id)) aways = away_at aways (position (is_away id) aways)
+back_by (Some (presence.Left id)) aways = None
+back_by (Some (presence.Back id)) aways = away_at aways (position (is_away id) aways)

@@ -35,7 +35,7 @@ use Rattle.otp_trial.specs.Paths.{paths_of}
 use Rattle.otp_trial.specs.declared.planting.Change.{Change}
 use Rattle.otp_trial.specs.declared.trial.ActionEnd.{ActionEnd}
 use Rattle.otp_trial.specs.declared.trial.ActionEnd.TheVariants as taken
-use Rattle.otp_trial.specs.Aways.{aways_by, turn_of}
+use Rattle.otp_trial.specs.Aways.{aways_by, presence_of}
 use Rattle.otp_trial.specs.Starts.{is_of_id, is_start_of, started_by}
 use Rattle.otp_trial.specs.Story.{event_text}
 use Rattle.otp_trial.specs.declared.story.away.Away.{Away}
@@ -73,7 +73,7 @@ strain_with e p = strained_by p.base.flags p.strain e.reading e.kind (step (stat
 
 -- which of its children are away after an event
 abbrev pub aways_with : Event → Seated → List Away
-aways_with e p = aways_by (turn_of (state_in p).rows e.kind) e.reading p.aways
+aways_with e p = aways_by (presence_of (state_in p).rows e.kind) e.reading p.aways
 
 -- the supervisor after an event
 abbrev pub seat_with : Event → Seated → Seated

@@ -17,7 +17,7 @@ use Rattle.otp_spec.specs.declared.flags.SupFlags.{SupFlags}
 use Rattle.otp_text.specs.Effects.{effect_line}
 use Rattle.otp_text.specs.Values.{child_name_text, process_text, reason_text}
 use Rattle.otp_trial.specs.declared.story.time.TheConstants.{MOST_TIMES}
-use Rattle.otp_trial.specs.Aways.{back_by, turn_of}
+use Rattle.otp_trial.specs.Aways.{back_by, presence_of}
 use Rattle.otp_trial.specs.Starts.{start_of}
 use Rattle.otp_trial.specs.declared.story.away.Away.{Away}
 use Rattle.otp_trial.specs.declared.story.starts.Started.{Started}
@@ -162,5 +162,5 @@ down_told false now path away = []
 -- clock, with the answers as they are then, by the starts before it, and where these children were away
 unfoldable pub event_text : Bool → List ℕ → List Started → List Away → State → Event → List ℕ
 event_text tells path starts aways s e =
-    down_told tells e.reading path (back_by (turn_of s.rows e.kind) aways)
+    down_told tells e.reading path (back_by (presence_of s.rows e.kind) aways)
     ++ told_lines tells e.reading path starts (step s e).state.replies (step s e).orders

@@ -13,7 +13,7 @@ ghost use Rattle.otp_trial.specs.Played.{Happens, end_if_started, end_of_ended, 
 
 use crate::planting::seat_of;
 use crate::processes::finding::state_for;
-use crate::story::away::{Away, note_turn, tell_down, turn_of};
+use crate::story::away::{Away, note_presence, presence_of, tell_down};
 use crate::story::starts::{Started, has_start, put_starts, starts_of};
 use crate::story::strain::Strain;
 use crate::story::telling::{Telling, tell};
@@ -192,7 +192,7 @@ impl TriedSupervisor {
         if last >= MAX_READING {
             return Err(Halt::HistoryFull);
         }
-        let turn = turn_of(self.core.rows(), &kind);
+        let presence = presence_of(self.core.rows(), &kind);
         self.core.clear_effects();
         let after = self.core.happen_after(MAX_EVENTS, time, &kind, last)?;
         self.is_whole = false;
@@ -204,9 +204,9 @@ impl TriedSupervisor {
             tells: self.tells,
         };
         let aways = self.aways.as_slice();
-        tell_down(&scene, turn, aways, out)?;
+        tell_down(&scene, presence, aways, out)?;
         tell(&scene, &self.core, printer, out)?;
-        note_turn(turn, time, &mut self.aways)?;
+        note_presence(presence, time, &mut self.aways)?;
         put_starts(self.core.effects(), &mut self.starts)?;
         self.strain = strain_after(
             self.strain,

@@ -2,7 +2,7 @@
 
 ghost use Rattle.std.specs.Prelude.{◌≡◌, ◌≤◌, ◌<◌, ◌++◌, IfSome, OnOk, length, position};
 ghost use Rattle.otp_table.specs.Rows.{has_process, row_has};
-ghost use Rattle.otp_trial.specs.Aways.{away_at, aways_by, back_by, id_at, id_of, is_away, left_at, left_by, turn_in, turn_of, up_by, without_away};
+ghost use Rattle.otp_trial.specs.Aways.{away_at, aways_by, back_by, id_at, id_of, is_away, left_at, left_by, presence_in, presence_of, up_by, without_away};
 ghost use Rattle.otp_trial.specs.Story.{down_line, down_text, down_told};
 
 use crate::story::telling::Telling;
@@ -20,9 +20,9 @@ pub struct Away {
     pub since: u64,
 }
 
-/// What an event means for the child with this id.
+/// What an event means for the child with this id: its presence ends, or begins.
 #[derive(Clone, Copy, Debug, PartialEq, Eq)]
-pub enum Turn {
+pub enum Presence {
     /// Its process has ended.
     Left(Name),
     /// It is up.
@@ -61,30 +61,30 @@ fn id_of(rows: &[Row], process: u64) -> Option<Name>
 
 /// This child has lost its process, if it has an id.
 #[tactic(auto, unfolding(crate::specs::Aways::left_by))]
-fn left_by(id: Option<Name>) -> Option<Turn>
+fn left_by(id: Option<Name>) -> Option<Presence>
     ensures { result ≡ left_by id }
 {
     match id {
         None => None,
-        Some(id) => Some(Turn::Left(id)),
+        Some(id) => Some(Presence::Left(id)),
     }
 }
 
 /// This child is up, if it has an id.
 #[tactic(auto, unfolding(crate::specs::Aways::up_by))]
-fn up_by(id: Option<Name>) -> Option<Turn>
+fn up_by(id: Option<Name>) -> Option<Presence>
     ensures { result ≡ up_by id }
 {
     match id {
         None => None,
-        Some(id) => Some(Turn::Back(id)),
+        Some(id) => Some(Presence::Back(id)),
     }
 }
 
 /// What a note says so of these children.
-#[tactic(auto, unfolding(crate::specs::Aways::turn_in))]
-fn turn_in(rows: &[Row], note: Note) -> Option<Turn>
-    ensures { result ≡ turn_in rows.now note }
+#[tactic(auto, unfolding(crate::specs::Aways::presence_in))]
+fn presence_in(rows: &[Row], note: Note) -> Option<Presence>
+    ensures { result ≡ presence_in rows.now note }
 {
     match note {
         Note::Up(process) => up_by(id_of(rows, process)),
@@ -94,12 +94,12 @@ fn turn_in(rows: &[Row], note: Note) -> Option<Turn>
 }
 
 /// Which of these children an event of this kind takes its process, or gives one that is up.
-#[tactic(auto, unfolding(crate::specs::Aways::turn_of))]
-pub fn turn_of(rows: &[Row], kind: &Kind) -> Option<Turn>
-    ensures { result ≡ turn_of rows.now kind.now }
+#[tactic(auto, unfolding(crate::specs::Aways::presence_of))]
+pub fn presence_of(rows: &[Row], kind: &Kind) -> Option<Presence>
+    ensures { result ≡ presence_of rows.now kind.now }
 {
     match kind {
-        Kind::Took(Item::Note(note)) => turn_in(rows, *note),
+        Kind::Took(Item::Note(note)) => presence_in(rows, *note),
         _ => None,
     }
 }
@@ -159,16 +159,20 @@ fn put_in(aways: &mut Vec<Away>, now: u64, id: Name, place: Option<usize>) -> Re
 ///
 /// Where memory is refused.
 #[tactic(auto, unfolding(crate::specs::Aways::aways_by))]
-pub fn note_turn(turn: Option<Turn>, now: u64, aways: &mut Vec<Away>) -> Result<(), AllocError>
-    ensures { OnOk result (aways.new.items ≡ aways_by turn now aways.old.items) }
+pub fn note_presence(
+    presence: Option<Presence>,
+    now: u64,
+    aways: &mut Vec<Away>,
+) -> Result<(), AllocError>
+    ensures { OnOk result (aways.new.items ≡ aways_by presence now aways.old.items) }
 {
-    match turn {
+    match presence {
         None => Ok(()),
-        Some(Turn::Left(id)) => {
+        Some(Presence::Left(id)) => {
             let place = place_of(aways.as_slice(), &id);
             put_in(aways, now, id, place)
         }
-        Some(Turn::Back(id)) => {
+        Some(Presence::Back(id)) => {
             let place = place_of(aways.as_slice(), &id);
             take_out(aways, place);
             Ok(())
@@ -178,12 +182,12 @@ pub fn note_turn(turn: Option<Turn>, now: u64, aways: &mut Vec<Away>) -> Result<
 
 /// The child that was away, and is up by that.
 #[tactic(auto, unfolding(crate::specs::Aways::back_by))]
-fn back_by(turn: Option<Turn>, aways: &[Away]) -> Option<Away>
-    ensures { result ≡ back_by turn aways.now }
+fn back_by(presence: Option<Presence>, aways: &[Away]) -> Option<Away>
+    ensures { result ≡ back_by presence aways.now }
 {
-    match turn {
-        Some(Turn::Back(id)) => away_at(aways, place_of(aways, &id)),
-        Some(Turn::Left(_)) | None => None,
+    match presence {
+        Some(Presence::Back(id)) => away_at(aways, place_of(aways, &id)),
+        Some(Presence::Left(_)) | None => None,
     }
 }
 
@@ -228,14 +232,14 @@ fn write_back(
 #[tactic(auto, unfolding(crate::specs::Story::down_told))]
 pub fn tell_down(
     scene: &Telling<'_>,
-    turn: Option<Turn>,
+    presence: Option<Presence>,
     aways: &[Away],
     out: &mut Vec<u8>,
 ) -> Result<(), AllocError>
-    ensures { OnOk result (out.new.items ≡ out.old.items ++ down_told scene.now.tells scene.now.time scene.now.path.now (back_by turn aways.now)) }
+    ensures { OnOk result (out.new.items ≡ out.old.items ++ down_told scene.now.tells scene.now.time scene.now.path.now (back_by presence aways.now)) }
 {
     if scene.tells {
-        write_back(scene.time, scene.path, back_by(turn, aways), out)
+        write_back(scene.time, scene.path, back_by(presence, aways), out)
     } else {
         Ok(())
     }

@@ -9,6 +9,6 @@ pub mod strain;
 pub mod telling;
 pub mod time;
 
-pub use away::{Away, Turn};
+pub use away::{Away, Presence};
 pub use starts::Started;
 pub use strain::{Course, Strain};

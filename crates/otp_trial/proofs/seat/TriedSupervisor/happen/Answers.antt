@@ -11,13 +11,13 @@ use Rattle.otp_rules.specs.State.{State}
 use Rattle.otp_rules.specs.Step.{step}
 use Rattle.otp_spec.specs.declared.flags.SupFlags.{SupFlags}
 use Rattle.otp_trial.specs.Played.{Happens, Seated}
-use Rattle.otp_trial.specs.Aways.{aways_by, back_by, turn_of}
+use Rattle.otp_trial.specs.Aways.{aways_by, back_by, presence_of}
 use Rattle.otp_trial.specs.Starts.{started_by}
 use Rattle.otp_trial.specs.Strains.{strained, strained_by}
 use Rattle.otp_trial.specs.declared.story.strain.Strain.{Strain}
 use Rattle.otp_trial.specs.Story.{down_told, event_text, told_lines}
 use Rattle.otp_trial.specs.declared.story.away.Away.{Away}
-use Rattle.otp_trial.specs.declared.story.away.Turn.{Turn}
+use Rattle.otp_trial.specs.declared.story.away.Presence.{Presence}
 use Rattle.otp_table.specs.declared.row.Row.{Row}
 use Rattle.std.specs.Prelude.{Option}
 use Rattle.otp_trial.specs.declared.story.starts.Started.{Started}
@@ -53,18 +53,18 @@ returns c =
     ∙ ap (λ (s : State). told_lines tells c.args.time path before s.replies fresh) stepped in
     let were : List Away = c.self.inside.aways.items in
     let out : List ℕ = c.args.out.now.items in
-    let turned : c.turn_of-turn.result ≡ turn_of (state_of old).rows c.args.kind =
-    c.turn_of-turn.ensures ∙ ap (λ (rows : List Row). turn_of rows c.args.kind) c.rows.ensures.value in
-    let turn : Option Turn = turn_of (state_of old).rows c.args.kind in
-    let down : List ℕ = down_told tells c.args.time path (back_by turn were) in
+    let as_found : c.presence_of-presence.result ≡ presence_of (state_of old).rows c.args.kind =
+    c.presence_of-presence.ensures ∙ ap (λ (rows : List Row). presence_of rows c.args.kind) c.rows.ensures.value in
+    let presence : Option Presence = presence_of (state_of old).rows c.args.kind in
+    let down : List ℕ = down_told tells c.args.time path (back_by presence were) in
     let story : List ℕ = told_lines tells c.args.time c.as_slice.result.now c.as_slice-starts.result.now (stored_state after).replies after.effects in
-    let downs : down_told tells c.args.time c.as_slice.result.now (back_by c.turn_of-turn.result c.as_slice-aways.result.now) ≡ down =
-    ap (λ (p : List ℕ). down_told tells c.args.time p (back_by c.turn_of-turn.result c.as_slice-aways.result.now)) c.as_slice.ensures.value
-    ∙ ap (λ (t : Option Turn). down_told tells c.args.time path (back_by t c.as_slice-aways.result.now)) turned
-    ∙ ap (λ (away : List Away). down_told tells c.args.time path (back_by turn away)) c.as_slice-aways.ensures.value in
-    let aways : List Away = c.note_turn.new.aways.items in
-    let noted : aways ≡ aways_by turn c.args.time were =
-    c.in_ok-note_turn.ensures ∙ ap (λ (t : Option Turn). aways_by t c.args.time were) turned in
+    let downs : down_told tells c.args.time c.as_slice.result.now (back_by c.presence_of-presence.result c.as_slice-aways.result.now) ≡ down =
+    ap (λ (p : List ℕ). down_told tells c.args.time p (back_by c.presence_of-presence.result c.as_slice-aways.result.now)) c.as_slice.ensures.value
+    ∙ ap (λ (t : Option Presence). down_told tells c.args.time path (back_by t c.as_slice-aways.result.now)) as_found
+    ∙ ap (λ (away : List Away). down_told tells c.args.time path (back_by presence away)) c.as_slice-aways.ensures.value in
+    let aways : List Away = c.note_presence.new.aways.items in
+    let noted : aways ≡ aways_by presence c.args.time were =
+    c.in_ok-note_presence.ensures ∙ ap (λ (t : Option Presence). aways_by t c.args.time were) as_found in
     let before_it : Strain = c.self.inside.strain in
     let then : Strain = c.strain_after-self-inside.result in
     let next : State = (step (state_of old) event).state in
