@@ -207,7 +207,11 @@ impl<'a> Log<'a> {
             Some(_) if event.is_up() => Ok(()),
             Some(meant) if self.is_strict => self.put_unknown(moment, called, meant),
             Some(Meant::Unknown) if self.path.is_empty() => {
-                self.remark("no child of the tree is called ", called.name, "")
+                self.remark(
+                    "no child of the tree is called ",
+                    called.name,
+                    "; a file for --ids can say which is meant",
+                )
             }
             Some(Meant::Unknown) => self.remark(
                 "no child of the tree has the path that the file for --ids says: ",

@@ -12,9 +12,10 @@ use crate::known::Known;
 use crate::lines::{append_line, behind_line, line_end, put_end};
 use crate::log::Log;
 use crate::seeking::{line_behind, place_of_bytes};
+use crate::words::strip;
 use crate::{elixir, objects, otp, supervisord};
 use otp_file::TreeSpec;
-use otp_foreign::{Range, line_at};
+use otp_foreign::{Range, line_at, write_byte};
 use std::alloc::{AllocError, Global};
 
 /// How a log is read.
@@ -26,7 +27,7 @@ pub struct LogWords<'a> {
     pub ids: &'a [u8],
     /// A child that the tree doesn't have is handed on, and not left out.
     pub is_strict: bool,
-    /// Lines that say nothing of children stand as they are, and not as empty lines.
+    /// Lines that say nothing of children stand as they are, and not as a dash.
     pub keeps_others: bool,
 }
 
@@ -141,6 +142,9 @@ fn take_line(
             log.count_plain();
         } else if keeps_others {
             log.line.extend_from_slice(bytes)?;
+        } else if !strip(bytes).is_empty() {
+            // It is counted as a line that isn't played, and its text isn't wanted.
+            write_byte(b'-', &mut log.line)?;
         }
     }
     log.number = log.number.saturating_add(1);
